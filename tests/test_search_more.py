@@ -120,7 +120,8 @@ class Trace(Kept):
 class Fixed(Kept):
     def test_no_region_is_merged_or_split(self) -> None:
         """All aggregations have the same regions, as many as wanted, and each is checked in each pass."""
-        inputs, workload = self.inputs('traces = ["a.cut"]\nfixed = true\n[settings]\ninterval = 10\nmin = 3\nmax = [5, 6, 9, 20, 77, 400]\naggr = 3\n')
+        text = 'traces = ["a.cut"]\nfixed = true\n[settings]\ninterval = 10\nmin = 3\nmax = [5, 6, 9, 20, 77, 400]\naggr = 3\n'
+        inputs, workload = self.inputs(text)
         for number in range(inputs.points.runs):
             point, seed = inputs.points.run(number)
             script = script_of(inputs.plan, workload, point, seed).decode()

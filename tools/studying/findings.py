@@ -8,7 +8,7 @@ from typing import Callable, Iterable, Iterator, Mapping, NamedTuple, Sequence
 
 from common import UsageError
 
-from .rows import PRICES, PROGRAM, RUNS, WORTH, Found, Spread, of_program, read_rows, where
+from .rows import PRICES, PROGRAM, RUNS, WORTH, Found, Spread, number_text, of_program, read_rows, where
 
 Cells = Iterator[list[str]]
 PRICE = 10
@@ -199,5 +199,49 @@ def goal_cells(results: Results) -> Cells:
                text(None if fixed is None else out - fixed), text(best[row.program] - found.mean)]
 
 
-FINDINGS: dict[str, Callable[[Results], Cells]] = {"adapting": adapting_cells, "regret": regret_cells, "goals_regret": goal_cells}
+# ---- over all programs
+
+
+PLANS = ("accuracy", "interval", "least", "fixed", "reclaim", "goals", "marks")
+
+
+def summary_cells(results: Results) -> Cells:
+    """Of each point of each plan the mean, the least and the greatest of each measure over the programs that have it."""
+    yield ["plan", "settings", "measure", "programs", "mean", "least", "greatest"]
+    for plan in PLANS:
+        alike: dict[str, list[Found]] = {}
+        for row in results.rows(plan):
+            alike.setdefault(settings_text(row), []).append(row)
+        for settings, rows in alike.items():
+            for name in rows[0].measures:
+                numbers = [row.mean(name) for row in rows if row.has(name)]
+                if numbers:
+                    yield [plan, settings, name, str(len(numbers)), *(number_text(name, number) for number in over(numbers))]
+    yield from gain_cells(results)
+
+
+def gain_cells(results: Results) -> Cells:
+    """The same of what adapting gains, of regrets, and of what goals gain."""
+    for file, keys, names in (("adapting", ("min", "max"), ("gain", "times")), ("regret", ("price",), ("regret",)),
+                              ("goals_regret", ("kind", "value"), ("gain", "regret"))):
+        alike: dict[str, list[dict[str, str]]] = {}
+        for cells in results.table(file):
+            alike.setdefault(" ".join(f"{key}={cells[key]}" for key in keys), []).append(cells)
+        for settings, some in alike.items():
+            for name in names:
+                numbers = [float(cells[name]) for cells in some if cells[name]]
+                if numbers:
+                    yield [file, settings, name, str(len(numbers)), *map(text, over(numbers))]
+
+
+def over(numbers: Sequence[float]) -> Spread:
+    return Spread(sum(numbers) / len(numbers), min(numbers), max(numbers))
+
+
+def settings_text(row: Found) -> str:
+    return " ".join(f"{name}={value}" for name, value in row.settings.items() if name not in (PROGRAM, RUNS))
+
+
+FINDINGS: dict[str, Callable[[Results], Cells]] = {"adapting": adapting_cells, "regret": regret_cells, "goals_regret": goal_cells,
+                                                       "summary": summary_cells}
 """The files of what follows, each with what makes its cells."""

@@ -1,9 +1,145 @@
-"""The tables of the page."""
+"""The tables of the page, from the results. A cell has a mean, and in brackets the least and the greatest over seeds."""
 from __future__ import annotations
 
-from .findings import Results
+from typing import Iterable, Sequence
+
+from .findings import AGGR, PRICE, Results
+from .rows import Found, Spread, where
+
+START_MAX, LARGE_MAX, LARGE_MIN = 200, 1000, 100
+"""Of the settings whose tables the page has: a budget to begin with, the greatest one, and a `min` for small regions."""
+PAGE_BYTES = 4096
 
 
 def tables_of(results: Results) -> dict[str, list[str]]:
     """The lines of each table, by its name."""
-    return {}
+    return {"programs": programs(results), "accuracy": accuracy(results), "interval": interval(results), "adapting": adapting(results),
+            "reclaim": reclaim(results), "goals": goals(results)}
+
+
+def table(head: Sequence[str], rows: Iterable[Sequence[str]]) -> list[str]:
+    return [f"| {' | '.join(cells)} |" for cells in (head, ["---"] * len(head), *rows)]
+
+
+def share(number: float, digits: int = 0) -> str:
+    return f"{100 * number:.{digits}f} %"
+
+
+def spread(found: Spread | None, digits: int = 0) -> str:
+    """A share with its spread."""
+    if found is None:
+        return "-"
+    return f"{share(found.mean, digits)} ({100 * found.least:.{digits}f} to {100 * found.greatest:.{digits}f})"
+
+
+def programs(results: Results) -> list[str]:
+    rows = [[name, f"{int(cells['accesses']) / 1e6:.1f} million", f"{int(cells['interval']):,}", cells["targets"], f"{int(cells['pages']):,}",
+             share(float(cells["accessed"]), 1), share(float(cells["hot"]), 1)] for name, cells in results.facts.items()]
+    return table(["program", "accesses", "accesses of a pass", "targets", "pages", "accessed in an aggregation", "hot in it"], rows)
+
+
+def one(rows: Sequence[Found], **settings: object) -> Found:
+    """The only row with these settings."""
+    (found,) = where(rows, **settings)
+    return found
+
+
+def accuracy(results: Results) -> list[str]:
+    """What some budgets find of each program."""
+    rows = []
+    for name in results.facts:
+        accurate, least = (where(results.rows(plan), program=name, aggr=AGGR) for plan in ("accuracy", "least"))
+        few, start = one(accurate, max=50), one(accurate, max=START_MAX)
+        small = one(least, min=LARGE_MIN)
+        rows.append([name, spread(few.measures["hot_found"]), *cost_and(start), spread(start.measures["hot_false"]),
+                     spread(start.measures["working_set_error"]), *cost_and(small)])
+    return table(["program", "found, `max` 50", f"checked, `max` {START_MAX}", "found", "called hot and not", "error of the working set",
+                  f"checked, `min` {LARGE_MIN}, `max` {LARGE_MAX:,}", "found"], rows)
+
+
+def cost_and(row: Found) -> list[str]:
+    """Which share of the pages is checked in a pass, and which share of what is hot is found."""
+    return [share(row.mean("cost")) if row.has("cost") else "-", spread(row.measures["hot_found"])]
+
+
+def interval(results: Results) -> list[str]:
+    """What shorter intervals find."""
+    rows = results.rows("interval")
+    passes = list(dict.fromkeys(row.settings["passes"] for row in rows))
+    return table(["program", *(f"found, {int(count):,} passes" for count in passes)],
+                 [[name, *(spread(one(rows, program=name, passes=count, max=START_MAX).measures["hot_found"]) for count in passes)]
+                  for name in results.facts])
+
+
+def adapting(results: Results) -> list[str]:
+    """What regions that stay find with as many checks."""
+    rows = []
+    for name in results.facts:
+        found = [cells for cells in results.table("adapting") if cells["program"] == name and cells["min"] == "10"]
+        for most in ("50", str(START_MAX)):
+            rows += [[name, most, cells["checks"], share(float(cells["hot_found"])), shown(cells["fixed_found"]), gain_of(cells),
+                      cells["fixed_checks"], cells["times"]] for cells in found if cells["max"] == most]
+    return table(["program", "`max`", "checks a pass", "found", "fixed regions find with as many", "gain, in points",
+                  "checks of fixed regions that find as much", "times"], rows)
+
+
+def shown(text: str) -> str:
+    return share(float(text)) if text else "-"
+
+
+def gain_of(cells: dict[str, str]) -> str:
+    if not cells["gain"]:
+        return "-"
+    mean, least, greatest = (100 * float(cells[name]) for name in ("gain", "gain least", "gain greatest"))
+    return f"{mean:+.0f} ({least:+.0f} to {greatest:+.0f})"
+
+
+def reclaim(results: Results) -> list[str]:
+    """The best setting of each program, and the one for all of them."""
+    rows = []
+    for cells in results.table("regret"):
+        if cells["price"] == str(PRICE):
+            rows.append([cells["program"], setting(cells, "own"), shown(cells["own out"]), share(float(cells["own refaults"]), 2),
+                         shown(cells["one out"]), share(float(cells["one refaults"]), 2), regret_of(cells)])
+            whole = setting(cells, "one")
+    return table(["program", "its best: age, quota", "out", "back in an aggregation", f"one for all ({whole}): out",
+                  "back in an aggregation", "regret, in points"], rows)
+
+
+def setting(cells: dict[str, str], whose: str) -> str:
+    return f"{cells[f'{whose} age']}, {quota(cells[f'{whose} quota'])}"
+
+
+def quota(text: str) -> str:
+    """A quota in pages."""
+    pages = int(text) // PAGE_BYTES
+    return "none" if pages > 1 << 16 else f"{pages} pages"
+
+
+def regret_of(cells: dict[str, str]) -> str:
+    mean, least, greatest = (100 * float(cells[name]) for name in ("regret", "regret least", "regret greatest"))
+    return f"{mean:.1f} ({least:.1f} to {greatest:.1f})"
+
+
+def goals(results: Results) -> list[str]:
+    """What each quota and each goal is worth over all programs."""
+    words = {"quota": "a fixed quota of {}", "cold": "the quota follows {} thousandths cold", "goal": "the scheme rests at {} thousandths out"}
+    sums = {(cells["settings"], cells["measure"]): cells for cells in results.table("summary") if cells["plan"] == "goals_regret"}
+    found: dict[tuple[str, str], list[dict[str, str]]] = {}
+    for cells in results.table("goals_regret"):
+        found.setdefault((cells["kind"], cells["value"]), []).append(cells)
+    rows = []
+    for (kind, value), some in found.items():
+        regret, gain = (sums.get((f"kind={kind} value={value}", name)) for name in ("regret", "gain"))
+        out, back = (sum(float(cells[name]) for cells in some) / len(some) for name in ("out", "refaults"))
+        rows.append([words[kind].format(quota(value) if kind == "quota" else value), share(out), share(back, 2), points(regret), points(gain)])
+    return table(["setting", "out", "back in an aggregation", "regret, in points", "more out than fixed quotas where as much comes back, in points"],
+                 rows)
+
+
+def points(cells: dict[str, str] | None) -> str:
+    """A mean over the programs, with the least and the greatest."""
+    if cells is None:
+        return "-"
+    mean, least, greatest = (100 * float(cells[name]) for name in ("mean", "least", "greatest"))
+    return f"{mean:.1f} ({least:.1f} to {greatest:.1f})"

@@ -6,7 +6,7 @@ from typing import Callable, Iterable, Sequence
 from drawing.multiples import Axis, Dot, Multiples, Panel, Series, multiples
 
 from .findings import AGE, AGGR, PRICE, Results, choice_of
-from .rows import Found, of_program, where
+from .rows import COST, Found, of_program, where
 
 SHARES = [(part / 4, f"{25 * part} %") for part in range(5)]
 CHECKS = Axis("checks in each pass, as a share of all pages", 0.005, 1.0, [(0.01, "1 %"), (0.1, "10 %"), (1.0, "100 %")], True)
@@ -17,19 +17,18 @@ OUT = Axis("share of the memory that is out", 0.0, 1.0, SHARES)
 EACH_PAGE = "each page checked"
 
 
-def dot(row: Found, x: str, y: str, divisor: float, is_large: bool = False) -> Dot:
-    """The mark of a row that has both measures; the first one is divided."""
+def dot(row: Found, x: str, y: str, is_large: bool = False) -> Dot:
+    """The mark of a row that has both measures."""
     across, upwards = row.measures[x], row.measures[y]
     assert across is not None and upwards is not None
     words = ", ".join(f"{name} {value}" for name, value in row.settings.items() if name not in ("program", "runs"))
     hover = f"{words}\n{x} {across.mean:.4g}, {y} {upwards.mean:.4g}"
-    left, middle, right = (number / divisor for number in (across.least, across.mean, across.greatest))
-    return Dot((middle, left, right), (upwards.mean, upwards.least, upwards.greatest), hover, is_large)
+    return Dot(across, upwards, hover, is_large)
 
 
-def found_series(name: str, kind: int, rows: Iterable[Found], pages: int, line: str = "solid") -> Series:
+def found_series(name: str, kind: int, rows: Iterable[Found], line: str = "solid") -> Series:
     """What is found for how many checks."""
-    return Series(name, kind, [dot(row, "checks", "hot_found", pages) for row in rows if row.has("hot_found")], line)
+    return Series(name, kind, [dot(row, COST, "hot_found") for row in rows if row.has("hot_found")], line)
 
 
 def each_page(kind: int) -> Series:
@@ -46,8 +45,7 @@ def accuracy(results: Results) -> str:
     """What 10 to 1,000 regions find, for some lengths of aggregations."""
     rows, panels = of_program(results.rows("accuracy")), []
     for program, own in rows.items():
-        lines = [found_series(f"aggr {aggr}", kind, where(own, aggr=aggr), results.pages[program])
-                 for kind, aggr in enumerate((5, 20, 40))]
+        lines = [found_series(f"aggr {aggr}", kind, where(own, aggr=aggr)) for kind, aggr in enumerate((5, 20, 40))]
         panels.append(panel(results, program, [*lines, each_page(3)]))
     return multiples(Multiples("Hot memory that is found, and what it costs: max from 10 to 1,000 along each line", CHECKS, HOT_FOUND, panels,
                                "a cross is as long as from the least to the greatest of five seeds"))
@@ -59,17 +57,16 @@ def adapting(results: Results) -> str:
                               for name in ("accuracy", "least", "fixed"))
     panels = []
     for program, own in accurate.items():
-        pages = results.pages[program]
-        panels.append(panel(results, program, [found_series("adapting, min 10, max from 10 to 1,000", 0, own, pages),
-                                               found_series("adapting, max 1,000, min from 10 to 1,000", 1, least[program], pages),
-                                               found_series("fixed regions, 10 to 1,000", 2, fixed[program], pages, "dashed"), each_page(3)]))
+        panels.append(panel(results, program, [found_series("adapting, min 10, max from 10 to 1,000", 0, own),
+                                               found_series("adapting, max 1,000, min from 10 to 1,000", 1, least[program]),
+                                               found_series("fixed regions, 10 to 1,000", 2, fixed[program], "dashed"), each_page(3)]))
     return multiples(Multiples("Regions that adapt, and regions that stay as they are", CHECKS, HOT_FOUND, panels,
                                f"aggr {AGGR}; a cross is as long as from the least to the greatest of five seeds"))
 
 
 def moved_series(name: str, kind: int, rows: Iterable[Found], line: str, is_large: bool = False) -> Series:
     """What is out for how many refaults."""
-    return Series(name, kind, [dot(row, "refaults", "out", 1.0, is_large) for row in rows if row.has("out")], line)
+    return Series(name, kind, [dot(row, "refaults", "out", is_large) for row in rows if row.has("out")], line)
 
 
 def front(rows: Sequence[Found]) -> list[Found]:

@@ -19,6 +19,8 @@ LEAST, GREATEST = " least", " greatest"
 PRICES = (3, 10, 30)
 """How many aggregations a page has to be out to make up for a refault."""
 WORTH = "worth_"
+CHECKS, COST = "checks", "cost"
+"""The checks of a pass, and which share of all pages they are."""
 
 
 class Spread(NamedTuple):
@@ -60,7 +62,7 @@ def shown_settings(plan: Plan) -> list[str]:
 def shown_measures(plan: Plan) -> list[str]:
     """The measures of the rows of a plan."""
     has_worth = {"out", "refaults"} <= set(plan.measures)
-    return [*plan.measures, *([f"{WORTH}{price}" for price in PRICES] if has_worth else [])]
+    return [*plan.measures, COST, *([f"{WORTH}{price}" for price in PRICES] if has_worth else [])]
 
 
 def found_rows(plan: Plan, settings: Sequence[str], program: Program, path: Path) -> Iterator[Found]:
@@ -80,9 +82,11 @@ def found_rows(plan: Plan, settings: Sequence[str], program: Program, path: Path
 def per_page(run: Mapping[str, str], program: Program) -> dict[str, float]:
     """The measures of a run: checks for each pass, and memory as shares of the pages, what moves for each aggregation."""
     passes, aggr = program.passes(int(run["interval"])), int(run["aggr"])
-    divisors = {"checks": passes, "out": program.pages, "tuned": 1 << PAGE_BITS,
+    divisors = {CHECKS: passes, "out": program.pages, "tuned": 1 << PAGE_BITS,
                 **dict.fromkeys(("refaults", "pageouts"), program.pages * max(1, passes // aggr))}
     found = {name: float(text) / divisors.get(name, 1) for name, text in run.items() if text and is_number(text)}
+    if CHECKS in found:
+        found[COST] = found[CHECKS] / program.pages
     if {"out", "refaults"} <= found.keys():
         found |= {f"{WORTH}{price}": found["out"] - price * found["refaults"] for price in PRICES}
     return found
@@ -113,7 +117,7 @@ def cells_of(name: str, spread: Spread | None) -> list[str]:
 
 def number_text(name: str, number: float) -> str:
     """Shares have four digits behind the point, and refaults, which are few beside all pages, six."""
-    digits = 2 if name in ("checks", "tuned") else 6 if name in ("refaults", "pageouts") else 4
+    digits = 2 if name in (CHECKS, "tuned") else 6 if name in ("refaults", "pageouts") else 4
     return f"{number:.{digits}f}"
 
 
