@@ -1,7 +1,7 @@
 # Builds a graph of 300 towns with 1,200 roads, and finds the shortest ways from 4 of them; makes JSON of the result and reads it again.
 # Debian: python3
 cat > roads.py <<'PYTHON'
-import heapq, json, random
+import heapq, json
 
 def shortest(roads, start):
     far, queue = {start: 0}, [(0, start)]
@@ -15,9 +15,8 @@ def shortest(roads, start):
                 heapq.heappush(queue, (far[other], other))
     return far
 
-random.seed(1)
 towns = [f"town {number}" for number in range(300)]
-roads = {town: {random.choice(towns): random.randrange(1, 100) for road in range(4)} for town in towns}
+roads = {town: {towns[(number * 271 + road * road * 67) % 300]: number * road % 97 + 1 for road in range(1, 5)} for number, town in enumerate(towns)}
 ways = {start: shortest(roads, start) for start in towns[:4]}
 print(sum(map(len, json.loads(json.dumps(ways)).values())))
 PYTHON
