@@ -117,6 +117,22 @@ def adapting_cells(results: Results) -> Cells:
                    *map(text, gains), text(needed, 2), text(needed / checks if needed else None, 2)]
 
 
+WANTED = (0.5, 0.8, 0.9)
+"""Shares of the hot memory that are to be found."""
+
+
+def needed_cells(results: Results) -> Cells:
+    """What share of the pages a pass has to check to find so much of what is hot, with the best `min` and `max`, and with fixed regions."""
+    yield [PROGRAM, "wanted", "adapting", "fixed"]
+    fixed = fixed_curves(results, "mean")
+    for program, rows in of_program(adapting_rows(results)).items():
+        pages = results.pages[program]
+        curve = Curve((row.mean("checks"), row.mean("hot_found")) for row in rows if row.has("hot_found"))
+        for wanted in WANTED:
+            prices = (one.price(wanted) for one in (curve, fixed[program]))
+            yield [program, str(wanted), *(text(price / pages if price else None) for price in prices)]
+
+
 def text(number: float | None, digits: int = 4) -> str:
     return "" if number is None else f"{number:.{digits}f}"
 
@@ -221,9 +237,9 @@ def summary_cells(results: Results) -> Cells:
 
 
 def gain_cells(results: Results) -> Cells:
-    """The same of what adapting gains, of regrets, and of what goals gain."""
-    for file, keys, names in (("adapting", ("min", "max"), ("gain", "times")), ("regret", ("price",), ("regret",)),
-                              ("goals_regret", ("kind", "value"), ("gain", "regret"))):
+    """The same of what adapting gains, of what has to be checked, of regrets, and of what goals gain."""
+    for file, keys, names in (("adapting", ("min", "max"), ("gain", "times")), ("needed", ("wanted",), ("adapting", "fixed")),
+                              ("regret", ("price",), ("regret",)), ("goals_regret", ("kind", "value"), ("gain", "regret"))):
         alike: dict[str, list[dict[str, str]]] = {}
         for cells in results.table(file):
             alike.setdefault(" ".join(f"{key}={cells[key]}" for key in keys), []).append(cells)
@@ -242,6 +258,7 @@ def settings_text(row: Found) -> str:
     return " ".join(f"{name}={value}" for name, value in row.settings.items() if name not in (PROGRAM, RUNS))
 
 
-FINDINGS: dict[str, Callable[[Results], Cells]] = {"adapting": adapting_cells, "regret": regret_cells, "goals_regret": goal_cells,
-                                                       "summary": summary_cells}
-"""The files of what follows, each with what makes its cells."""
+FINDINGS: dict[str, Callable[[Results], Cells]] = {
+    "adapting": adapting_cells, "needed": needed_cells, "regret": regret_cells, "goals_regret": goal_cells, "summary": summary_cells,
+}
+"""The files of what follows, each with what makes its cells; the last one reads the others."""
