@@ -23,7 +23,8 @@ kept_cut() { "$study/../tools/trace_to_script.py" --interval 100000 --grain 1000
 
 # Runs a program under lackey. Its input is that of the function; what it prints is dropped, and so are the instructions of the trace.
 traced() {
-    { clean valgrind --tool=lackey --trace-mem=yes --log-fd=9 "$@" 9>&1 > /dev/null 2> errors || mv errors failed; } | LC_ALL=C grep -v "^I" | kept_cut
+    { clean valgrind --tool=lackey --trace-mem=yes --log-fd=9 "$@" 9>&1 > /dev/null 2> errors || mv errors failed; } |
+        LC_ALL=C grep -v "^I" | kept_cut
 }
 
 # So many lines like those of a web server's log: most ask for a few of 2,000 pages. The random words of perl are the same everywhere.

@@ -52,7 +52,8 @@ class Recording(unittest.TestCase):
         ran = self.record("traced true")
         self.assertEqual(ran.returncode, 0, ran.stderr)
         self.assertRegex((self.folder / "a.txt").read_text(), r"\Acoreutils \S+, valgrind \S+, \d+ seconds\n\Z")
-        self.assertRegex(notes_of(b"", "--interval", "1000", str(self.folder / "a.cut")), r"note: \d{5,6} accesses in \d+ intervals of 1000;")
+        notes = notes_of(b"", "--interval", "1000", str(self.folder / "a.cut"))
+        self.assertRegex(notes, r"note: \d{5,6} accesses in \d+ intervals of 1000;")
 
     def test_a_program_that_fails_leaves_nothing(self) -> None:
         ran = self.record("traced cat no-such-file")
