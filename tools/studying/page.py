@@ -9,6 +9,8 @@ from .rows import Found, Spread, where
 START_MAX, LARGE_MAX, LARGE_MIN = 200, 1000, 100
 """Of the settings whose tables the page has: a budget to begin with, the greatest one, and a `min` for small regions."""
 PAGE_BYTES = 4096
+SHOWN = {"quota": ("131072", "262144", "524288", "1048576", "1073741824"), "cold": ("700", "800", "900"), "goal": ("300", "500", "700")}
+"""The quotas and goals whose rows the page has."""
 
 
 def tables_of(results: Results) -> dict[str, list[str]]:
@@ -29,7 +31,7 @@ def spread(found: Spread | None, digits: int = 0) -> str:
     """A share with its spread."""
     if found is None:
         return "-"
-    return f"{share(found.mean, digits)} ({100 * found.least:.{digits}f} to {100 * found.greatest:.{digits}f})"
+    return f"{share(found.mean, digits)} ({100 * found.least:.{digits}f}–{100 * found.greatest:.{digits}f})"
 
 
 def programs(results: Results) -> list[str]:
@@ -77,10 +79,14 @@ def adapting(results: Results) -> list[str]:
     for name in results.facts:
         found = [cells for cells in results.table("adapting") if cells["program"] == name and cells["min"] == "10"]
         for most in ("50", str(START_MAX)):
-            rows += [[name, most, cells["checks"], share(float(cells["hot_found"])), shown(cells["fixed_found"]), gain_of(cells),
-                      cells["fixed_checks"], cells["times"]] for cells in found if cells["max"] == most]
+            rows += [[name, most, whole(cells["checks"]), share(float(cells["hot_found"])), shown(cells["fixed_found"]), gain_of(cells),
+                      whole(cells["fixed_checks"]), cells["times"] or "-"] for cells in found if cells["max"] == most]
     return table(["program", "`max`", "checks a pass", "found", "fixed regions find with as many", "gain, in points",
-                  "checks of fixed regions that find as much", "times"], rows)
+                  "fixed regions need", "times"], rows)
+
+
+def whole(text: str) -> str:
+    return f"{float(text):.0f}" if text else "-"
 
 
 def shown(text: str) -> str:
@@ -101,9 +107,8 @@ def reclaim(results: Results) -> list[str]:
         if cells["price"] == str(PRICE):
             rows.append([cells["program"], setting(cells, "own"), shown(cells["own out"]), share(float(cells["own refaults"]), 2),
                          shown(cells["one out"]), share(float(cells["one refaults"]), 2), regret_of(cells)])
-            whole = setting(cells, "one")
-    return table(["program", "its best: age, quota", "out", "back in an aggregation", f"one for all ({whole}): out",
-                  "back in an aggregation", "regret, in points"], rows)
+            all_alike = setting(cells, "one")
+    return table(["program", "its best: age, quota", "out", "back", f"one for all ({all_alike}): out", "back", "regret, in points"], rows)
 
 
 def setting(cells: dict[str, str], whose: str) -> str:
@@ -123,18 +128,19 @@ def regret_of(cells: dict[str, str]) -> str:
 
 def goals(results: Results) -> list[str]:
     """What each quota and each goal is worth over all programs."""
-    words = {"quota": "a fixed quota of {}", "cold": "the quota follows {} thousandths cold", "goal": "the scheme rests at {} thousandths out"}
+    words = {"quota": "quota: {}", "cold": "goal: {} thousandths cold", "goal": "rests at {} thousandths out"}
     sums = {(cells["settings"], cells["measure"]): cells for cells in results.table("summary") if cells["plan"] == "goals_regret"}
     found: dict[tuple[str, str], list[dict[str, str]]] = {}
     for cells in results.table("goals_regret"):
         found.setdefault((cells["kind"], cells["value"]), []).append(cells)
     rows = []
     for (kind, value), some in found.items():
+        if value not in SHOWN[kind]:
+            continue
         regret, gain = (sums.get((f"kind={kind} value={value}", name)) for name in ("regret", "gain"))
         out, back = (sum(float(cells[name]) for cells in some) / len(some) for name in ("out", "refaults"))
         rows.append([words[kind].format(quota(value) if kind == "quota" else value), share(out), share(back, 2), points(regret), points(gain)])
-    return table(["setting", "out", "back in an aggregation", "regret, in points", "more out than fixed quotas where as much comes back, in points"],
-                 rows)
+    return table(["setting", "out", "back", "regret, in points", "gain, in points"], rows)
 
 
 def points(cells: dict[str, str] | None) -> str:
