@@ -104,7 +104,7 @@ def multiples(picture: Multiples, theme: str = "auto") -> str:
         draw_panel(canvas, panel, place, column == 0, number + COLUMNS >= len(picture.panels))
     bottom = top + rows * (HEIGHT + HEAD + GAP) - HEAD - GAP
     canvas.text((LEFT + WIDTH) / 2, bottom + AXIS - 4, picture.x.words, "middle")
-    canvas.upwards(18, (top + bottom) / 2, picture.y.words, "middle")
+    canvas.upwards(13, (top + bottom) / 2, picture.y.words, "middle")
     return canvas.document(bottom + AXIS + 10, picture.title, theme)
 
 

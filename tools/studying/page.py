@@ -36,8 +36,8 @@ def spread(found: Spread | None, digits: int = 0) -> str:
 
 def programs(results: Results) -> list[str]:
     rows = [[name, f"{int(cells['accesses']) / 1e6:.1f} million", f"{int(cells['interval']):,}", cells["targets"], f"{int(cells['pages']):,}",
-             share(float(cells["accessed"]), 1), share(float(cells["hot"]), 1)] for name, cells in results.facts.items()]
-    return table(["program", "accesses", "accesses of a pass", "targets", "pages", "accessed in an aggregation", "hot in it"], rows)
+             share(float(cells["accessed"]), 1), share(float(cells["hot"]), 1), cells["hot_run"]] for name, cells in results.facts.items()]
+    return table(["program", "accesses", "accesses of a pass", "targets", "pages", "accessed", "hot", "hot pages in a run"], rows)
 
 
 def one(rows: Sequence[Found], **settings: object) -> Found:

@@ -37,8 +37,7 @@ def each_page(kind: int) -> Series:
 
 
 def panel(results: Results, program: str, series: Sequence[Series]) -> Panel:
-    facts = results.facts[program]
-    return Panel(program, f"{int(facts['pages']):,} pages, {facts['targets']} targets", series)
+    return Panel(program, f"{results.pages[program]:,} pages", series)
 
 
 def accuracy(results: Results) -> str:

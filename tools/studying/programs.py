@@ -1,16 +1,19 @@
 """The programs of a study: kept traces, and what is known of each before anything is sampled."""
 from __future__ import annotations
 
+import re
 from pathlib import Path
 from typing import Iterable, Iterator, NamedTuple
 
 from common import UsageError
+from measuring.truth import HOT
 from searching.plan import Plan, interval_at
 from searching.traces import trace_workloads
 from searching.workloads import Key
 from tracing.kept import is_kept, kept_at
 
 SUFFIX = ".cut"
+HOT_RUN = re.compile(re.escape(HOT) + b"+")
 FACTS_PASSES, FACTS_AGGR = 2000, 20
 """The passes and the aggregations by which it is said how much of a program is hot: those of most plans."""
 
@@ -41,6 +44,8 @@ class Facts(NamedTuple):
     """The share of the page-aggregations that were accessed."""
     hot: float
     """The share of those that were hot."""
+    run: float
+    """How many hot pages lie beside each other, on average over all such runs."""
 
 
 def programs_of(paths: Iterable[Path]) -> list[Path]:
@@ -74,15 +79,16 @@ def program_of(path: Path, plan: Plan) -> tuple[Program, Facts]:
     ((_, workload),) = trace_workloads(plan._replace(folder=path.parent, target=None), path.name, [key])
     ends = range(FACTS_AGGR, len(workload.passes) + 1, FACTS_AGGR)
     truths = [workload.truths.between(end - FACTS_AGGR, end) for end in ends]
-    pages = max(1, workload.pages * len(truths))
+    pages, hot = max(1, workload.pages * len(truths)), sum(truth.hot for truth in truths)
+    runs = sum(len(HOT_RUN.findall(truth.kinds)) for truth in truths)
     facts = Facts(kept.recording.accesses, sum(line.startswith("target ") for line in workload.places), interval,
-                  sum(truth.accessed for truth in truths) / pages, sum(truth.hot for truth in truths) / pages)
+                  sum(truth.accessed for truth in truths) / pages, hot / pages, hot / max(1, runs))
     return Program(name_of(path), path, kept.recording.length, len(kept.recording.intervals), workload.pages), facts
 
 
 def fact_rows(programs: Iterable[tuple[Program, Facts]]) -> Iterator[list[str]]:
     """The rows of what programs are."""
-    yield ["program", "accesses", "interval", "passes", "targets", "pages", "accessed", "hot"]
+    yield ["program", "accesses", "interval", "passes", "targets", "pages", "accessed", "hot", "hot_run"]
     for program, facts in programs:
         yield [program.name, str(facts.accesses), str(facts.interval), str(program.passes(facts.interval)), str(facts.targets),
-               str(program.pages), f"{facts.accessed:.4f}", f"{facts.hot:.4f}"]
+               str(program.pages), f"{facts.accessed:.4f}", f"{facts.hot:.4f}", f"{facts.run:.2f}"]
