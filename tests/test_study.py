@@ -140,7 +140,11 @@ class Prose(Page):
     """Each sentence that states a number has its row in a hidden block behind its paragraph, which the page's commands print."""
 
     def test_commands_and_outputs(self) -> None:
-        self.follow("docs/STUDY.md", lambda block: "tools/study.py" in block or "valgrind" in block)
+        self.follow("docs/STUDY.md", lambda block: "tools/study.py" in block, self.compare_pictures)
+
+    def compare_pictures(self, folder: Path) -> None:
+        for picture in ("exact", "sampled"):
+            check_same((folder / f"study-{picture}.svg").read_bytes(), TOP / f"docs/pictures/study-{picture}.svg")
 
     def test_each_number_has_its_row(self) -> None:
         checked = 0
@@ -153,7 +157,7 @@ class Prose(Page):
 
     def test_its_length(self) -> None:
         shown = re.sub(r"<!--\n.*?-->", "", STUDY.read_text(), flags=re.S)
-        self.assertLess(len(shown.split()), MOST_WORDS)
+        self.assertLess(len(re.findall(r"[^\s|]*\w[^\s|]*", shown)), MOST_WORDS)
 
 
 def paragraphs(page: str) -> Iterator[tuple[str, str]]:

@@ -7,6 +7,7 @@ from pathlib import Path
 from typing import Callable, Iterable, Iterator, Mapping, NamedTuple, Sequence
 
 from common import UsageError
+from units import PAGE_BITS
 
 from .rows import PRICES, PROGRAM, RUNS, WORTH, Found, Spread, number_text, of_program, read_rows, where
 
@@ -15,8 +16,10 @@ PRICE = 10
 """The price by which the best settings are chosen."""
 AGGR = 20
 """That of the plans with one."""
-AGE, NO_QUOTA = 4, "1073741824"
-"""The age of the schemes with goals, and the quota that no program uses up."""
+AGE = 4
+"""The age of the schemes with goals."""
+NO_QUOTA = "262144"
+"""The quota in pages that no program uses up."""
 
 
 class Results:
@@ -176,11 +179,15 @@ def regret_cells(results: Results) -> Cells:
             one = choice.rows[program]
             mine, other = own.measures[f"{WORTH}{price}"], one.measures[f"{WORTH}{price}"]
             assert mine and other
-            cells = [cell for row in (own, one) for cell in (row.settings["age"], row.settings["quota"], f"{row.mean('out'):.4f}",
+            cells = [cell for row in (own, one) for cell in (row.settings["age"], in_pages(row.settings["quota"]), f"{row.mean('out'):.4f}",
                                                               f"{row.mean('refaults'):.6f}", f"{row.mean(f'{WORTH}{price}'):.4f}")]
             # The same setting has the same runs; of two settings each may have its best or its worst seed.
             spread = (0.0, 0.0) if own is one else (mine.least - other.greatest, mine.greatest - other.least)
             yield [str(price), program, *cells, *map(text, (mine.mean - other.mean, *spread))]
+
+
+def in_pages(quota: str) -> str:
+    return str(int(quota) >> PAGE_BITS)
 
 
 # ---- what goals bring
@@ -195,7 +202,7 @@ def goal_rows(results: Results) -> Iterator[tuple[str, str, Found]]:
     for kind, plan in KINDS.items():
         for row in results.rows(plan):
             if row.settings.get("age", str(AGE)) == str(AGE):
-                yield kind, row.settings[kind], row
+                yield kind, in_pages(row.settings[kind]) if kind == "quota" else row.settings[kind], row
 
 
 def goal_cells(results: Results) -> Cells:

@@ -3,19 +3,18 @@ from __future__ import annotations
 
 from typing import Iterable, Sequence
 
-from .findings import AGGR, PRICE, Results
+from .findings import AGGR, NO_QUOTA, PRICE, Results
 from .rows import Found, Spread, where
 
 START_MAX, LARGE_MAX, LARGE_MIN = 200, 1000, 100
 """Of the settings whose tables the page has: a budget to begin with, the greatest one, and a `min` for small regions."""
-PAGE_BYTES = 4096
-SHOWN = {"quota": ("131072", "262144", "524288", "1048576", "1073741824"), "cold": ("700", "800", "900"), "goal": ("300", "500", "700")}
+SHOWN = {"quota": ("64", "128", "256", NO_QUOTA), "cold": ("700", "800", "900"), "goal": ("300", "500", "700")}
 """The quotas and goals whose rows the page has."""
 
 
 def tables_of(results: Results) -> dict[str, list[str]]:
     """The lines of each table, by its name."""
-    return {"programs": programs(results), "accuracy": accuracy(results), "interval": interval(results), "adapting": adapting(results),
+    return {"programs": programs(results), "accuracy": accuracy(results), "adapting": adapting(results),
             "reclaim": reclaim(results), "goals": goals(results)}
 
 
@@ -35,9 +34,9 @@ def spread(found: Spread | None, digits: int = 0) -> str:
 
 
 def programs(results: Results) -> list[str]:
-    rows = [[name, f"{int(cells['accesses']) / 1e6:.1f} million", f"{int(cells['interval']):,}", cells["targets"], f"{int(cells['pages']):,}",
-             share(float(cells["accessed"]), 1), share(float(cells["hot"]), 1), cells["hot_run"]] for name, cells in results.facts.items()]
-    return table(["program", "accesses", "accesses of a pass", "targets", "pages", "accessed", "hot", "hot pages in a run"], rows)
+    rows = [[name, f"{int(cells['accesses']) / 1e6:.1f}", cells["targets"], f"{int(cells['pages']):,}", share(float(cells["accessed"]), 1),
+             share(float(cells["hot"]), 1), cells["hot_run"]] for name, cells in results.facts.items()]
+    return table(["program", "million accesses", "targets", "pages", "accessed", "hot", "hot pages in a run"], rows)
 
 
 def one(rows: Sequence[Found], **settings: object) -> Found:
@@ -53,9 +52,8 @@ def accuracy(results: Results) -> list[str]:
         accurate, least = (where(results.rows(plan), program=name, aggr=AGGR) for plan in ("accuracy", "least"))
         few, start = one(accurate, max=50), one(accurate, max=START_MAX)
         small = one(least, min=LARGE_MIN)
-        rows.append([name, spread(few.measures["hot_found"]), *cost_and(start), spread(start.measures["hot_false"]),
-                     spread(start.measures["working_set_error"]), *cost_and(small)])
-    return table(["program", "found, `max` 50", f"checked, `max` {START_MAX}", "found", "called hot and not", "error of the working set",
+        rows.append([name, spread(few.measures["hot_found"]), *cost_and(start), spread(start.measures["working_set_error"]), *cost_and(small)])
+    return table(["program", "found, `max` 50", f"checked, `max` {START_MAX}", "found", "working set",
                   f"checked, `min` {LARGE_MIN}, `max` {LARGE_MAX:,}", "found"], rows)
 
 
@@ -64,25 +62,12 @@ def cost_and(row: Found) -> list[str]:
     return [share(row.mean("cost")) if row.has("cost") else "-", spread(row.measures["hot_found"])]
 
 
-def interval(results: Results) -> list[str]:
-    """What shorter intervals find."""
-    rows = results.rows("interval")
-    passes = list(dict.fromkeys(row.settings["passes"] for row in rows))
-    return table(["program", *(f"found, {int(count):,} passes" for count in passes)],
-                 [[name, *(spread(one(rows, program=name, passes=count, max=START_MAX).measures["hot_found"]) for count in passes)]
-                  for name in results.facts])
-
-
 def adapting(results: Results) -> list[str]:
     """What regions that stay find with as many checks."""
-    rows = []
-    for name in results.facts:
-        found = [cells for cells in results.table("adapting") if cells["program"] == name and cells["min"] == "10"]
-        for most in ("50", str(START_MAX)):
-            rows += [[name, most, whole(cells["checks"]), share(float(cells["hot_found"])), shown(cells["fixed_found"]), gain_of(cells),
-                      whole(cells["fixed_checks"]), cells["times"] or "-"] for cells in found if cells["max"] == most]
-    return table(["program", "`max`", "checks a pass", "found", "fixed regions find with as many", "gain, in points",
-                  "fixed regions need", "times"], rows)
+    rows = [[cells["program"], whole(cells["checks"]), share(float(cells["hot_found"])), shown(cells["fixed_found"]), gain_of(cells),
+             whole(cells["fixed_checks"]), cells["times"] or "-"]
+            for cells in results.table("adapting") if (cells["min"], cells["max"]) == ("10", str(START_MAX))]
+    return table(["program", "checks a pass", "found", "fixed regions find", "gain, in points", "fixed regions need", "times"], rows)
 
 
 def whole(text: str) -> str:
@@ -116,9 +101,7 @@ def setting(cells: dict[str, str], whose: str) -> str:
 
 
 def quota(text: str) -> str:
-    """A quota in pages."""
-    pages = int(text) // PAGE_BYTES
-    return "none" if pages > 1 << 16 else f"{pages} pages"
+    return "none" if text == NO_QUOTA else f"{text} pages"
 
 
 def regret_of(cells: dict[str, str]) -> str:
