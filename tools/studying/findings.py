@@ -249,7 +249,9 @@ def gain_cells(results: Results) -> Cells:
                               ("regret", ("price",), ("regret",)), ("goals_regret", ("kind", "value"), ("gain", "regret"))):
         alike: dict[str, list[dict[str, str]]] = {}
         for cells in results.table(file):
-            alike.setdefault(" ".join(f"{key}={cells[key]}" for key in keys), []).append(cells)
+            # Means that are compared are those of the same programs.
+            if file != "needed" or all(cells[name] for name in names):
+                alike.setdefault(" ".join(f"{key}={cells[key]}" for key in keys), []).append(cells)
         for settings, some in alike.items():
             for name in names:
                 numbers = [float(cells[name]) for cells in some if cells[name]]

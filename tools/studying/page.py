@@ -8,7 +8,7 @@ from .rows import Found, Spread, where
 
 START_MAX, LARGE_MAX, LARGE_MIN = 200, 1000, 100
 """Of the settings whose tables the page has: a budget to begin with, the greatest one, and a `min` for small regions."""
-SHOWN = {"quota": ("64", "128", "256", NO_QUOTA), "cold": ("700", "800", "900"), "goal": ("300", "500", "700")}
+SHOWN = {"quota": ("64", "256", NO_QUOTA), "cold": ("700", "800", "900"), "goal": ("300", "500", "700")}
 """The quotas and goals whose rows the page has."""
 
 
