@@ -58,6 +58,8 @@ def plan_files(study: Study) -> list[Path]:
 def runs_of(study: Study, paths: Iterable[Path], machine: Machine) -> Iterator[Path]:
     """Makes all runs, plan by plan. Gives the file of the results of each. Raises UsageError."""
     traces, files = programs_of(paths), plan_files(study)
+    for file in files:
+        restricted(plan_of(str(file), traces[0]), study.only)
     programs = [program_of(path, plan_of(str(files[0]), path)) for path in traces]
     write_cells(study.results / f"{FACTS}.csv", fact_rows(programs))
     for place, file in enumerate(files):
