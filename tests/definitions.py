@@ -21,7 +21,10 @@ list `internal` has the definitions that no exported clause needs. The number of
 docs/THEOREM.md and in README.md, between `<!-- headline -->` and `<!-- end -->`.
 """
 import sys
+from pathlib import Path
 from typing import Dict, Iterable, List, NamedTuple, Set
+
+sys.path.insert(0, str(Path(__file__).resolve().parent.parent / "tools"))
 
 from blocks import with_block, with_blocks
 from sources import TOP, Definition, Repository

@@ -4,10 +4,13 @@ The file is CSV. A row has all times of one program on one workload at one size,
 greatest resident set in KiB, and the instructions of a run where they were counted.
 """
 import csv
+import sys
 from dataclasses import dataclass, field
 from pathlib import Path
 from statistics import median, quantiles
 from typing import Dict, Iterable, List, NamedTuple, Optional, Sequence, Tuple
+
+sys.path.insert(0, str(Path(__file__).resolve().parent.parent / "tools"))
 
 from blocks import with_blocks
 from speed_workloads import Workload

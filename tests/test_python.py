@@ -18,7 +18,7 @@ from tool_runs import SECONDS, TOOLS, TOP, interpreter_with, need_program
 
 CODE = ("tools", "tests", "build.py")
 FILES = [path for name in CODE for path in ([TOP / name] if (TOP / name).is_file() else sorted((TOP / name).rglob("*.py")))]
-PACKAGES = ("scripts", "reports", "tracing", "measuring", "comparing", "asking", "searching", "drawing", "webpage")
+PACKAGES = ("scripts", "reports", "tracing", "measuring", "comparing", "asking", "searching", "drawing", "webpage", "studying")
 """The packages of tools/, the lowest first. One may import what stands before it, and what all share: the modules beside them."""
 IMPORT = re.compile(r"^ *(?:from|import) (\w+)", re.MULTILINE)
 

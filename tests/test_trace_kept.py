@@ -128,6 +128,12 @@ class Errors(Refusals, Folders):
                 with self.subTest(place=place, bytes=len(text)):
                     self.refused(TOOL, [self.kept, "this kept trace is damaged"], b"", "--interval", "20", self.kept)
 
+    def test_a_file_of_an_older_version(self) -> None:
+        self.keep(random_trace(1, 900), "--interval", "20")
+        whole = Path(self.kept).read_bytes()
+        Path(self.kept).write_bytes(whole.replace(b"damon trace 2", b"damon trace 1", 1))
+        self.refused(TOOL, [self.kept, "or of an older version: keep it again with --keep"], b"", "--interval", "20", self.kept)
+
     def test_options(self) -> None:
         trace = random_trace(1, 100)
         for words in (("--grain", "5"), ("--grain", "5", "--fit", "--keep", self.kept)):

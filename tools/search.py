@@ -7,31 +7,18 @@ from __future__ import annotations
 
 import argparse
 import os
-import signal
 import sys
-from collections import deque
-from contextlib import ExitStack
 from pathlib import Path
-from types import FrameType
-from typing import Iterator, Sequence
 
 sys.path.insert(0, str(Path(__file__).resolve().parent))
 
 from common import UsageError, parser, run
 from scripts.judge import VARIABLE, is_there, program
-from searching.asking import Asked
-from searching.cluster import cluster_pool, distributed
-from searching.finding import answers
-from searching.handing import Pool, in_order
-from searching.limits import check_limits
-from searching.local import local_pool
-from searching.plan import Plan, plan_of
+from searching.cluster import distributed
+from searching.plan import plan_of
 from searching.points import Points
-from searching.remaining import Remaining
-from searching.runs import Inputs, first_cells
-from searching.table import DONE, STATUS, Row, RunsFile, rows_there, write_points
-from searching.traces import trace_workloads
-from searching.workloads import Key, Workload, script_workload
+from searching.searches import Machine, interrupt_once, searched
+from searching.table import rows_there, write_points
 from wording import counted
 
 TOOL = "search.py"
@@ -66,6 +53,7 @@ def options_of() -> argparse.Namespace:
     add("plan", help="the plan, in TOML")
     add("runs", help="the file of runs, as CSV; a search goes on where it ends")
     add("--points", metavar="FILE", help="also write a row for each point, with means and spreads over its seeds")
+    add("--trace", type=Path, metavar="FILE", help="a trace in place of those of the plan")
     add("--random", type=int, metavar="N", help="draw so many points, and do not run all")
     add("--draw", type=int, default=1, metavar="SEED", help="with which number the drawing starts (1)")
     add("--jobs", type=int, default=os.cpu_count() or 1, metavar="N", help="processes on this machine (one for each processor)")
@@ -85,100 +73,23 @@ def options_of() -> argparse.Namespace:
     return options
 
 
-def workloads_of(plan: Plan, points: Points, folder: Path) -> dict[Key, Workload]:
-    """The workloads of all points, each made once. Raises UsageError."""
-    found: dict[Key, Workload] = {}
-    for name, keys in points.keys(plan.are_traces).items():
-        if plan.are_traces:
-            found.update(trace_workloads(plan, name, keys, folder))
-        else:
-            found.update(dict.fromkeys(keys, script_workload(plan, name)))
-    return found
-
-
-class Runs:
-    """Gives the rows of runs: those that are in the file, and then those that are made and added to it."""
-
-    def __init__(self, options: argparse.Namespace, inputs: Inputs, file: RunsFile, stack: ExitStack) -> None:
-        """What makes the runs is opened when the first of them is needed, and closed with the stack."""
-        self.options = options
-        self.inputs = inputs
-        self.file = file
-        self.stack = stack
-        self.pool: Pool | None = None
-        self.there = self.made = self.failed = 0
-        self.remaining = Remaining(sys.stderr)
-
-    def __call__(self, numbers: Sequence[int]) -> Iterator[Row]:
-        """The rows of these runs, in their order."""
-        place = 0
-        while place < len(numbers) and (row := self.file.kept(self.first(numbers[place]))):
-            place += 1
-            self.there += 1
-            yield row
-        if place < len(numbers):
-            yield from self.made_now(numbers[place:])
-
-    def made_now(self, numbers: Sequence[int]) -> Iterator[Row]:
-        if not self.pool:
-            inputs, options = self.inputs, self.options
-            self.pool = self.stack.enter_context(
-                cluster_pool(inputs, options.cluster) if options.cluster else local_pool(inputs, options.jobs))
-        self.remaining.begin(len(numbers))
-        for rows in in_order(self.pool, numbers):
-            self.file.add(rows)
-            self.made += len(rows)
-            self.failed += sum(row[-1] != DONE for row in rows)
-            self.remaining(len(rows))
-            yield from rows
-
-    def first(self, number: int) -> Row:
-        """The cells with which the row of a run begins."""
-        point, seed = self.inputs.points.run(number)
-        return first_cells(point, seed, self.inputs.workloads[point.key(self.inputs.plan.are_traces)])
-
-
 def search(options: argparse.Namespace) -> list[str]:
     """Makes all rows that are needed and not there. Gives the answer to the plan's question, and writes a note. Raises UsageError."""
-    plan, path = plan_of(options.plan), Path(options.runs)
+    plan, path = plan_of(options.plan, options.trace), Path(options.runs)
     points = Points(plan, options.random, options.draw)
-    workloads = workloads_of(plan, points, path.parent)
-    check_limits(plan, points, workloads)
-    inputs = Inputs(plan, points, workloads, str(program().resolve()), options.timeout)
-    answer: list[str] = []
-    with ExitStack() as stack:
-        file = stack.enter_context(RunsFile(path, [*plan.columns, *plan.measures, STATUS]))
-        runs = Runs(options, inputs, file, stack)
-        stack.callback(runs.remaining.end)
-        try:
-            if plan.question.is_asked:
-                answer = list(answers(Asked(plan, points, workloads, runs)))
-            else:
-                deque(runs(range(points.runs)), maxlen=0)
-        except KeyboardInterrupt:
-            runs.remaining.end()
-            # The file tells how many rows there are: the interrupt may have come between a row and its count.
+    try:
+        made = searched(plan, points, path, Machine(options.jobs, options.cluster, options.timeout))
+    except KeyboardInterrupt:
+        # The file tells how many rows there are: the interrupt may have come between a row and its count.
+        if path.exists():
             print(f"note: stopped with {rows_there(path)} of {counted(points.runs, 'run')}: the same command goes on", file=sys.stderr)
-            raise
-        file.end()
+        raise
     if options.points:
         write_points(path, Path(options.points), plan.columns, plan.measures, len(points.seeds))
-    needed = "" if plan.question.axis is None else f"{runs.there + runs.made} of them needed, "
-    print(f"note: {counted(len(points), 'point')} with {counted(points.runs, 'run')}, {needed}{runs.there} of them there before; "
-          f"{runs.failed} of the others have another status than ok", file=sys.stderr)
-    return answer
-
-
-def interrupt_once() -> None:
-    """The first interrupt ends the search. Those after it, which would come while it ends, are ignored."""
-
-    def end(number: int, frame: FrameType | None) -> None:
-        signal.signal(signal.SIGINT, signal.SIG_IGN)
-        raise KeyboardInterrupt
-
-    # Where a shell in the background has the signal ignored, it stays so.
-    if signal.getsignal(signal.SIGINT) is signal.default_int_handler:
-        signal.signal(signal.SIGINT, end)
+    needed = "" if plan.question.axis is None else f"{made.there + made.new} of them needed, "
+    print(f"note: {counted(len(points), 'point')} with {counted(points.runs, 'run')}, {needed}{made.there} of them there before; "
+          f"{made.failed} of the others have another status than ok", file=sys.stderr)
+    return made.answer
 
 
 def work() -> None:

@@ -39,7 +39,7 @@ def largest(points: Points) -> Iterator[Point]:
     axes, one = dict(points.axes), points.point(0)
     most = {name: greatest(axes[name]) for name in ("cap", "max")}
     for workload, interval, unit in product(points.axes[0][1], axes["interval"], axes["unit"]):
-        yield Point(str(workload), {**one.chosen, **most, "interval": interval, "unit": unit})
+        yield points.made(str(workload), {**one.chosen, **most, "interval": interval, "unit": unit})
 
 
 def greatest(values: Sequence[Value | None]) -> Value | None:

@@ -12,14 +12,18 @@ from scripts.grammar import HEADERS, first_word
 from tracing.clocks import CLOCKS
 from tracing.commits import PARTS
 from tracing.forms import FORMS
+from tracing.kept import interval_of, is_kept, kept_at
 from tracing.lackey import KINDS
 
-from .measures import COMMANDS, MEASURES, RECLAIM, REPLAY, measures_by
+from .measures import COMMANDS, MEASURES, OF_MEMORY, RECLAIM, REPLAY, measures_by
 from .questions import EACH, Question, aim_of, condition_of
+from .quotas import COLD, HOT
 
 SETTINGS = ("interval", "unit", "cap", "min", "max", "aggr")
 """The settings of a point, in the order of the columns; the seed comes last."""
 SEED = "seed"
+PASSES = "passes"
+"""In place of `interval`: that of each kept trace which makes about so many passes."""
 TUNE = "tune"
 """The command of damon that takes goals."""
 TUNED = "tuned"
@@ -71,15 +75,24 @@ class Plan(NamedTuple):
     question: Question
     folder: Path = Path()
     """Where the paths of workloads begin."""
+    intervals: Mapping[tuple[str, Value], int] = {}
+    """The interval of each trace for each number of passes; none where the plan says the intervals itself."""
+    is_fixed: bool = False
+    """Whether each region is a range of its own, so that none is ever merged or split."""
 
     @property
     def columns(self) -> list[str]:
         """The names of what makes up a run."""
         return ["workload", *SETTINGS, *self.values, SEED]
 
+    @property
+    def is_tuned_memory(self) -> bool:
+        """Whether it is asked what quotas that follow goals put out, which a second run of `reclaim` tells."""
+        return self.command == TUNE and not OF_MEMORY.isdisjoint(self.measures)
 
-def plan_of(path: str) -> Plan:
-    """Raises UsageError that names the file."""
+
+def plan_of(path: str, trace: Path | None = None) -> Plan:
+    """A plan, with this trace in place of its own if one is given. Raises UsageError that names the file."""
     try:
         with open(path, "rb") as stream:
             members = tomllib.load(stream)
@@ -87,8 +100,9 @@ def plan_of(path: str) -> Plan:
         raise UsageError(f"{path}: {error.strerror}") from None
     except (tomllib.TOMLDecodeError, UnicodeDecodeError) as error:
         raise UsageError(f"{path}: {error}") from None
+    own = {} if trace is None else {"traces": [trace.name]}
     try:
-        return plan_from(Table(members, "the plan"), Path(path).parent)
+        return plan_from(Table({**members, **own}, "the plan"), Path(path).parent if trace is None else trace.parent)
     except UsageError as error:
         raise UsageError(f"{path}: {error}") from None
 
@@ -103,7 +117,7 @@ class Table:
     def take(self, name: str, kind: type, default: Any) -> Any:
         """A member of this type. Raises UsageError."""
         value = self.members.pop(name, default)
-        if not isinstance(value, kind) or isinstance(value, bool):
+        if not isinstance(value, kind) or isinstance(value, bool) != (kind is bool):
             raise UsageError(f"{name} of {self.name} must be {WORDS[kind]}")
         return value
 
@@ -131,7 +145,7 @@ class Table:
             raise UsageError(f"{self.name} has {name!r}, which is not known there")
 
 
-WORDS: dict[type, str] = {str: "a text", int: "a whole number", float: "a number", list: "a list", dict: "a table"}
+WORDS: dict[type, str] = {bool: "true or false", str: "a text", int: "a whole number", float: "a number", list: "a list", dict: "a table"}
 
 
 def plan_from(table: Table, folder: Path) -> Plan:
@@ -149,8 +163,11 @@ def plan_from(table: Table, folder: Path) -> Plan:
         raise UsageError(f"version is {version}, and must be one of {', '.join(map(str, HEADERS))}")
     source = source_of(table, bool(traces))
     settings = settings_of(table.table("settings"), bool(traces))
+    passes = settings.pop(PASSES, ())
+    intervals = {(name, count): interval_at(folder / name, count) for name in traces for count in passes}
+    settings |= {"interval": passes} if passes else {}
     values = values_of(table.table("values"))
-    seeds = settings.pop(SEED, ())
+    seeds, is_fixed = settings.pop(SEED, ()), table.take("fixed", bool, False)
     schemes, commits = table.lines("schemes"), tuple(map(placed, table.lines("commits")))
     hot, target, measures = measures_of(table.table("measure"), command)
     question = question_of(table, settings, values, measures)
@@ -158,14 +175,16 @@ def plan_from(table: Table, folder: Path) -> Plan:
     if any(first_word(line) == "attrs" for _, line in commits) and any(one.unit == EACH for one in question.conditions):
         raise UsageError(f"commits that change attrs change how many aggregations there are, so no condition can have `{EACH}`")
     check_schemes(schemes)
+    if command == TUNE and not OF_MEMORY.isdisjoint(measures):
+        check_tuned(traces, goals, commits)
     check_placeholders([*schemes, *goals, *(text for commit in commits for text in commit)], values)
     return Plan(command, goals, version or None, traces or scripts, bool(traces), source, settings, values, seeds, schemes, commits,
-                hot, target, measures, question, folder)
+                hot, target, measures, question, folder, intervals, is_fixed)
 
 
 def source_of(table: Table, are_traces: bool) -> Source:
     if not are_traces:
-        for name in ("clock", "form", "take", "gap"):
+        for name in ("clock", "form", "take", "gap", "fixed"):
             if name in table.members:
                 raise UsageError(f"{name} is for traces, and the plan has scripts")
     clock, form = table.take("clock", str, "accesses"), table.take("form", str, "")
@@ -181,16 +200,28 @@ def source_of(table: Table, are_traces: bool) -> Source:
 
 def settings_of(table: Table, are_traces: bool) -> dict[str, tuple[Value, ...]]:
     """The settings that the plan names, and the defaults of traces."""
-    if "interval" in table.members and not are_traces:
-        raise UsageError("interval is for traces, and the plan has scripts")
+    for name in ("interval", PASSES):
+        if name in table.members and not are_traces:
+            raise UsageError(f"{name} is for traces, and the plan has scripts")
+    if {"interval", PASSES} <= set(table.members):
+        raise UsageError(f"the plan has one of interval and {PASSES}, and not both")
     result: dict[str, tuple[Value, ...]] = {}
-    for name in (*SETTINGS, SEED):
+    for name in (*SETTINGS, PASSES, SEED):
         if name in table.members:
             result[name] = listed(name, table.members.pop(name), texts=False)
         elif are_traces and name in OF_TRACES:
             result[name] = (OF_TRACES[name],)
     table.end()
     return result
+
+
+def interval_at(path: Path, passes: Value) -> int:
+    """The interval with which a kept trace has about so many passes. Raises UsageError."""
+    if not isinstance(passes, int) or passes < 1:
+        raise UsageError(f"{PASSES} must be at least 1")
+    if not is_kept(path):
+        raise UsageError(f"{path} is no kept trace, and {PASSES} needs some: tools/trace_to_script.py --keep writes them")
+    return interval_of(kept_at(path), passes)
 
 
 def values_of(table: Table) -> dict[str, tuple[Value, ...]]:
@@ -245,11 +276,12 @@ def measures_of(table: Table, command: str) -> tuple[float, int | None, tuple[st
     target = table.take("target", int, -1)
     if target < -1:
         raise UsageError("target of [measure] must be the number of a target")
-    known = (*measures_by(command), *([TUNED] if command == TUNE else []))
-    columns = table.strings("columns") or known
+    own = (*measures_by(command), *([TUNED] if command == TUNE else []))
+    columns = table.strings("columns") or own
+    known = tuple(MEASURES) + (TUNED,) if command == TUNE else own
     for name in columns:
         if name in MEASURES and name not in known:
-            raise UsageError(f'columns of [measure] has {name!r}, which needs command = "{RECLAIM}"')
+            raise UsageError(f'columns of [measure] has {name!r}, which needs command = "{RECLAIM}" or "{TUNE}"')
         if name not in known or columns.count(name) > 1:
             raise UsageError(f"columns of [measure] has {name!r}; it can have each of these once: {', '.join(known)}")
     table.end()
@@ -271,6 +303,13 @@ def check_schemes(schemes: tuple[str, ...]) -> None:
     for line in schemes:
         if first_word(line) != "scheme":
             raise UsageError(f"a scheme needs a line that begins with `scheme `, and not {line!r}")
+
+
+def check_tuned(traces: tuple[str, ...], goals: tuple[str, ...], commits: tuple[tuple[str, str], ...]) -> None:
+    """Raises UsageError where the quotas of goals cannot be had from the report, so that a second run could have them."""
+    kinds = [goal.split(":")[1:2] for goal in goals]
+    if not traces or commits or any(kind not in ([HOT], [COLD]) for kind in kinds):
+        raise UsageError(f"what goals put out is measured in plans of traces without commits, with goals of the kinds {HOT} and {COLD}")
 
 
 def check_placeholders(texts: list[str], values: Mapping[str, tuple[Value, ...]]) -> None:

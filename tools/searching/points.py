@@ -42,6 +42,7 @@ class Points:
         """With `draws` so many different points are drawn, by a generator that starts with `draw`. Raises UsageError."""
         named = {**{name: plan.settings.get(name, OWN) for name in SETTINGS}, **plan.values}
         self.axes: Axes = [("", plan.workloads), *named.items()]
+        self.intervals = plan.intervals
         self.seeds: Sequence[Value | None] = plan.seeds or OWN
         self.all = 1
         for _, values in self.axes:
@@ -69,7 +70,12 @@ class Points:
             place, index = divmod(place, len(values))
             found.append(values[index])
         workload, *values_found = reversed(found)
-        return Point(str(workload), dict(zip((name for name, _ in self.axes[1:]), values_found)))
+        return self.made(str(workload), dict(zip((name for name, _ in self.axes[1:]), values_found)))
+
+    def made(self, workload: str, chosen: Mapping[str, Value | None]) -> Point:
+        """A point, with the interval that its trace has for a number of passes."""
+        own = self.intervals.get((workload, chosen["interval"] or 0))
+        return Point(workload, {**chosen, "interval": own} if own else chosen)
 
     def keys(self, are_traces: bool) -> dict[str, list[Key]]:
         """What workloads the points have, by name."""
@@ -77,7 +83,7 @@ class Points:
         if self.drawn is None:
             intervals, units = (dict(self.axes)[name] for name in ("interval", "unit"))
             one = self.point(0)
-            points = (Point(str(name), {**one.chosen, "interval": interval, "unit": unit})
+            points = (self.made(str(name), {**one.chosen, "interval": interval, "unit": unit})
                       for name, interval, unit in product(self.axes[0][1], intervals, units))
         else:
             points = (self.point(number) for number in range(len(self)))

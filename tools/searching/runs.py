@@ -8,21 +8,19 @@ from scripts.judge import OK
 from scripts.setup import Script
 from tracing.commits import commits_of
 
-from .measures import ReportError, measured
+from .fixed import fixed_places
+from .measures import OF_MEMORY, RECLAIM, ReportError, measured
 from .plan import SEED, TUNE, TUNED, Plan, Value
 from .points import Point, Points
+from .quotas import goal_of, quota_commits
 from .running import ran
-from .table import DONE, Row
+from .table import DONE, PointError, Row
 from .workloads import Key, Workload
 
 LONGEST_STATUS = 200
 TUNED_LINES = re.compile(r"(?:tuned [0-9]+ bytes=(?:[0-9]+|none)\n)+\Z")
 """What `damon tune` writes behind the last line of the report."""
 NUMBER = re.compile(r"bytes=([0-9]+)")
-
-
-class PointError(Exception):
-    """Values of placeholders that make no script."""
 
 
 class Inputs(NamedTuple):
@@ -48,7 +46,11 @@ def row_of(inputs: Inputs, number: int) -> Row:
     """The row of a run."""
     point, seed = inputs.points.run(number)
     workload = inputs.workloads[point.key(inputs.plan.are_traces)]
-    status, found = measured_of(inputs.plan, outcome_of(inputs, point, seed, workload), workload)
+    outcome = outcome_of(inputs, point, seed, workload)
+    status, found = measured_of(inputs.plan, outcome, workload)
+    if status == DONE and inputs.plan.is_tuned_memory:
+        status, more = moved_by_quotas(inputs, point, seed, workload, outcome.report or "", found[TUNED])
+        found |= more
     return [*first_cells(point, seed, workload), *[found.get(name, "") for name in inputs.plan.measures], status]
 
 
@@ -80,11 +82,29 @@ def measured_of(plan: Plan, outcome: Outcome, workload: Workload) -> tuple[str, 
         report = report[: tuned.start()]
     if plan.target is not None:
         report = of_target(report, plan.target)
+    names = [name for name in plan.measures if plan.command != TUNE or name not in OF_MEMORY]
     try:
-        found = measured(report, workload.truths, plan.hot, plan.measures)
+        found = measured(report, workload.truths, plan.hot, names)
     except ReportError as error:
         return one_line(str(error)), {}
     return DONE, {**found, TUNED: str(sum(map(int, NUMBER.findall(tuned[0]))))} if tuned else found
+
+
+def moved_by_quotas(inputs: Inputs, point: Point, seed: Value | None, workload: Workload, report: str,
+                    tuned: str) -> tuple[str, dict[str, str]]:
+    """What the quotas of a run with goals put out and what came back: the same run by `damon reclaim`, with these quotas as commits."""
+    plan, settings = inputs.plan, point.settings(workload)
+    goals = [goal_of(filled(goal, settings)) for goal in plan.goals]
+    try:
+        commits, end = quota_commits(report, goals, [filled(line, settings) for line in plan.schemes])
+    except ReportError as error:
+        return one_line(str(error)), {}
+    if str(end) != tuned:
+        return f"the quotas end at {end} bytes, and damon says {tuned}", {}
+    wanted = tuple(name for name in plan.measures if name in OF_MEMORY)
+    again = plan._replace(command=RECLAIM, goals=(), commits=tuple(commits), measures=wanted)
+    status, found = measured_of(again, outcome_of(inputs._replace(plan=again), point, seed, workload), workload)
+    return status, {name: text for name, text in found.items() if name in wanted}
 
 
 def of_target(report: str, target: int) -> str:
@@ -104,8 +124,9 @@ def seed_of(seed: Value | None, workload: Workload) -> Value:
 def script_of(plan: Plan, workload: Workload, point: Point, seed: Value | None) -> bytes:
     """The script of a run. Whether it is one is for damon to say. Raises PointError."""
     found = point.settings(workload)
+    places = fixed_places(workload.places, int(found["max"]), int(found["unit"])) if plan.is_fixed else workload.places
     setup = Script([workload.header, f"seed {seed_of(seed, workload)}", f"unit {found['unit']}", f"cap {found['cap']}",
-                    f"attrs {found['min']} {found['max']} {found['aggr']}", *workload.places, *workload.schemes], b"")
+                    f"attrs {found['min']} {found['max']} {found['aggr']}", *places, *workload.schemes], b"")
     for line in plan.schemes:
         setup.set_scheme(filled(line, found))
     commits = commits_of([(interval_of(filled(place, found)), filled(line, found)) for place, line in plan.commits])

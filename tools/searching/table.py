@@ -25,6 +25,10 @@ Row = list[str]
 """The cells of a run or of a point."""
 
 
+class PointError(Exception):
+    """Values of settings that make no script."""
+
+
 def line_of(cells: Sequence[str]) -> str:
     """The line of a row."""
     stream = io.StringIO()

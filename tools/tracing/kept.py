@@ -1,7 +1,7 @@
 """A trace that was read once: its intervals and pages in a small file, which tools take in place of the trace.
 
-The first line is `damon trace 1`, the second the SHA-256 of all behind it. Then come a line of JSON, which says how the
-trace was read, and numbers of 64 bits, the lowest byte first, in one block of zlib: the runs of each interval; their
+The first line is `damon trace 2`, the second the SHA-256 of all behind it. Then come a line of JSON, which says how the
+trace was read, and numbers of 64 bits, the lowest byte first, in one block of xz: the runs of each interval; their
 first pages and the pages after them; the pages with accesses; the accesses of each; the pages that only the end of an
 access touched.
 """
@@ -9,8 +9,8 @@ from __future__ import annotations
 
 import hashlib
 import json
+import lzma
 import sys
-import zlib
 from array import array
 from collections import Counter
 from itertools import accumulate, pairwise
@@ -22,7 +22,8 @@ from common import UsageError, whole_file
 from .accesses import Origin
 from .intervals import Recording, Runs
 
-HEADER = b"damon trace 1\n"
+START = b"damon trace "
+HEADER = START + b"2\n"
 NUMBER = "Q"
 BYTES = 8
 
@@ -35,10 +36,10 @@ class Kept(NamedTuple):
 
 
 def is_kept(path: str | Path) -> bool:
-    """Whether a file is a kept trace. What cannot be read is none."""
+    """Whether a file is a kept trace, perhaps of an older version. What cannot be read is none."""
     try:
         with open(path, "rb") as stream:
-            return stream.read(len(HEADER)) == HEADER
+            return stream.read(len(START)) == START
     except OSError:
         return False
 
@@ -51,7 +52,7 @@ def keep(path: str | Path, kept: Kept) -> None:
     lists += [array(NUMBER, recording.uses.keys()), array(NUMBER, recording.uses.values()), array(NUMBER, sorted(recording.more_pages))]
     said = {**kept.origin._asdict(), "length": recording.length, "accesses": recording.accesses,
             "duration": recording.duration, "lists": list(map(len, lists))}
-    rest = json.dumps(said).encode() + b"\n" + zlib.compress(b"".join(map(bytes_of, lists)))
+    rest = json.dumps(said).encode() + b"\n" + lzma.compress(b"".join(map(bytes_of, lists)))
     with whole_file(Path(path)) as stream:
         stream.write(HEADER + hashlib.sha256(rest).hexdigest().encode() + b"\n" + rest)
 
@@ -60,14 +61,20 @@ def kept_at(path: str | Path) -> Kept:
     """A kept trace. Raises UsageError if it is damaged."""
     try:
         with open(path, "rb") as stream:
-            _, hash, rest = stream.read().split(b"\n", 2)
-        if hashlib.sha256(rest).hexdigest().encode() != hash:
+            first, hash, rest = stream.read().split(b"\n", 2)
+        if first + b"\n" != HEADER or hashlib.sha256(rest).hexdigest().encode() != hash:
             raise ValueError
         line, block = rest.split(b"\n", 1)
         said = json.loads(line)
-        return Kept(Origin(**{name: said[name] for name in Origin._fields}), recording_of(said, zlib.decompress(block)))
-    except (ValueError, KeyError, zlib.error):
-        raise UsageError(f"{path}: this kept trace is damaged: keep it again with --keep") from None
+        return Kept(Origin(**{name: said[name] for name in Origin._fields}), recording_of(said, lzma.decompress(block)))
+    except (ValueError, KeyError, lzma.LZMAError):
+        raise UsageError(f"{path}: this kept trace is damaged or of an older version: keep it again with --keep") from None
+
+
+def interval_of(kept: Kept, passes: int) -> int:
+    """The interval with which a kept trace has about so many passes."""
+    length, count = kept.recording.length, len(kept.recording.intervals)
+    return length * max(1, (2 * count + passes) // (2 * passes))
 
 
 def recording_of(said: dict[str, Any], block: bytes) -> Recording:
