@@ -12,7 +12,7 @@
 
 enum { PAGE = 4096, HOT_PAGES = 16, COLD_PAGES = 64, ROUNDS = 50000 };
 
-/* A scan of the pages from `first` to before `after` of the cold array, when so many rounds are done. */
+/* A scan of the pages from `first` to before `after` of the cold array, after `round` rounds. */
 struct scan {
     unsigned round;
     size_t first, after;

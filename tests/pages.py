@@ -12,10 +12,13 @@ from typing import Callable
 
 from tool_runs import PROGRAM, SECONDS, TOP
 
-COMMANDS = ("mkdir ", "tools/", "./damon ", "grep ", "sed ", "xz ")
+COMMANDS = ("mkdir ", "tools/", "./damon ", "grep ", "sed ", "xz ", "awk ")
 UNTRIED = ("valgrind", "perf script", "drrun ", "out/shop.trace", "gnuplot", "./damond run")
 """Blocks of the tutorial with these need programs that are not everywhere, or make another run each time."""
 BLOCK = re.compile(r"^```\n(.*?)^```", re.MULTILINE | re.DOTALL)
+NUMBERED = re.compile(r"^((?:[^\n]+\n)+)\n<!--\n```\n(.*?)^```\n-->", re.MULTILINE | re.DOTALL)
+"""A paragraph or a table, and the hidden block behind it, whose commands print its numbers."""
+NUMBER = re.compile(r"(?<![\w.-])(?:0x[0-9a-f]+|\d+(?:,\d{3})*(?:\.\d+)?)(?!\w)")
 CUT = ".."
 """A line of a page in place of any lines of the output."""
 NOTES = r"(?:note: .*\n)*"
@@ -32,6 +35,27 @@ def shown_by(lines: list[str]) -> re.Pattern[str]:
     return re.compile("".join(parts) + NOTES)
 
 
+def plain(paragraph: str) -> str:
+    """A paragraph without code and without where links lead."""
+    return re.sub(r"\]\([^)]*\)", "]", re.sub(r"`[^`]*`", "", paragraph))
+
+
+def is_said(text: str, number: str) -> bool:
+    """Whether a number of a block is this text, by itself or when it is rounded to as many digits, also as a percentage."""
+    if text.startswith("0x") or number.startswith("0x"):
+        return text == number
+    return any(f"{value:.{len(text.partition('.')[2])}f}" == text.replace(",", "") for value in (float(number), 100 * float(number)))
+
+
+def unsaid(page: str) -> list[str]:
+    """The numbers of a page's paragraphs that the hidden block behind them does not have."""
+    left = []
+    for paragraph, block in NUMBERED.findall(page):
+        there = re.findall(r"(?<![\w.])(?:0x[0-9a-f]+|\d+(?:\.\d+)?)(?!\w)", block)
+        left += [f"{text} in {paragraph[:60]!r}" for text in NUMBER.findall(plain(paragraph)) if not any(is_said(text, it) for it in there)]
+    return left
+
+
 class Page(unittest.TestCase):
     maxDiff = None
 
@@ -39,9 +63,11 @@ class Page(unittest.TestCase):
         """Runs the lines of a page's blocks that are commands. Lines that are none are the whole output of the commands since the
         last such lines, in order, but for notes.
 
-        The folder `out` is a temporary one, which `at_end` is told.
+        The folder `out` is a temporary one, which `at_end` is told. A hidden block has all numbers of the paragraph before it.
         """
-        blocks = [block for block in BLOCK.findall((TOP / path).read_text()) if not is_skipped(block)]
+        page = (TOP / path).read_text()
+        self.assertEqual(unsaid(page), [])
+        blocks = [block for block in BLOCK.findall(page) if not is_skipped(block)]
         with tempfile.TemporaryDirectory() as folder:
             output = ""
             for block in blocks:

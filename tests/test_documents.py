@@ -109,22 +109,41 @@ class Trusted(unittest.TestCase):
 
 
 class Manuals(unittest.TestCase):
-    """The manual pages list the statuses of docs/FORMATS.md; a journal that is not lawful is none of `damond run`."""
+    """The manual pages have the commands and the statuses of docs/FORMATS.md; a journal that is not lawful is none of `damond run`."""
+
+    def setUp(self) -> None:
+        text = (TOP / "docs/FORMATS.md").read_text()
+        self.of_damond, self.of_damon = (self.statuses(text.split(f"\n## {head}\n")[1]) for head in ("Running `damond`", "Running the program"))
+
+    def test_commands(self) -> None:
+        words = rows_with_head("FORMATS.md", "words", "what is read from standard input", "what is written to standard output")
+        commands = [NAME.findall(row[0])[0].split()[0] for row in words]
+        self.assertEqual(re.findall(r"^\.B damon (\w+)", self.section("damon.1", "SYNOPSIS"), re.M), commands)
+        self.assertEqual(self.heads("damon.1"), commands)
+        widths = [width.split()[1] for row in words for width in NAME.findall(row[0]) if width.startswith("heat ")]
+        self.assertIn(" | ".join(widths), self.section("damon.1", "SYNOPSIS"))
+        for command in commands:
+            self.assertIn(command, self.of_damon["2"])
+        self.assertEqual(self.heads("damond.1"), ["run"])
 
     def test_statuses(self) -> None:
-        text = (TOP / "docs/FORMATS.md").read_text()
-        of_damond, of_damon = (self.statuses(text.split(f"\n## {head}\n")[1]) for head in ("Running `damond`", "Running the program"))
-        self.assertEqual(self.listed("damon.1"), of_damon)
-        self.assertEqual(self.listed("damond.1"), sorted({*of_damon, *of_damond} - {10}))
+        of_a_run = {number: line for number, line in {**self.of_damon, **self.of_damond}.items() if number != "10"}
+        for page, wanted in (("damon.1", self.of_damon), ("damond.1", of_a_run)):
+            text = self.section(page, "EXIT STATUS")
+            said = dict(re.findall(r"^\.B (\d+)\n(?:(?!\.TP).*\n)*?\.EX\n(.*)\n\.EE$", text, re.M))
+            self.assertEqual(re.findall(r"^\.B (\d+)$", text, re.M), sorted(wanted, key=int), page)
+            self.assertEqual(said, {number: line for number, line in wanted.items() if number != "0"}, page)
 
-    def statuses(self, section: str) -> List[int]:
-        """The numbers of the first table of statuses in a section."""
+    def statuses(self, section: str) -> Dict[str, str]:
+        """The lines of the first table of statuses in a section, by number."""
         table = section.split("| status | number |")[1].split("\n\n")[0]
-        return [int(number) for number in re.findall(r"^\| \w+ \| (\d+) \|", table, re.M)]
+        return dict(re.findall(r"^\| \w+ \| (\d+) \| `?([^`|]+?)`?(?:, with .*?)? \|", table, re.M))
 
-    def listed(self, page: str) -> List[int]:
-        section = (TOP / "docs" / page).read_text().split(".SH EXIT STATUS\n")[1].split("\n.SH")[0]
-        return [int(number) for number in re.findall(r"^\.B (\d+)$", section, re.M)]
+    def section(self, page: str, head: str) -> str:
+        return (TOP / "docs" / page).read_text().split(f".SH {head}\n")[1].split("\n.SH")[0]
+
+    def heads(self, page: str) -> List[str]:
+        return re.findall(r"^\.TP\n\.B[IR]? (\w+)", self.section(page, "COMMANDS"), re.M)
 
 
 class Pages(unittest.TestCase):

@@ -4,7 +4,7 @@ from __future__ import annotations
 
 import unittest
 
-from pages import Page
+from pages import Page, unsaid
 
 OUTPUT = "note: read\none\ntwo\nthree\nnote: done\n"
 
@@ -19,6 +19,16 @@ class Blocks(Page):
                       ["..", "two"], [""]):
             with self.subTest(lines=lines), self.assertRaises(AssertionError):
                 self.compare(lines, OUTPUT)
+
+
+class Numbers(unittest.TestCase):
+    PAGE = "It found 87 % of 1,234 pages from 0x1000 on with `--max 50`.\n\n<!--\n```\ngrep hot out/a.csv\n0.8688 1234 0x1000\n```\n-->\n"
+
+    def test_a_hidden_block_has_the_numbers_before_it(self) -> None:
+        self.assertEqual(unsaid(self.PAGE), [])
+        for right, wrong in (("87 %", "88 %"), ("1,234", "1,235"), ("0x1000 on", "0x1001 on"), ("0.8688", "0.8588")):
+            with self.subTest(wrong=wrong):
+                self.assertEqual(len(unsaid(self.PAGE.replace(right, wrong))), 1)
 
 
 class Threads(Page):

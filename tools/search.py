@@ -54,7 +54,7 @@ def options_of() -> argparse.Namespace:
     add("runs", help="the file of runs, as CSV; a search goes on where it ends")
     add("--points", metavar="FILE", help="also write a row for each point, with means and spreads over its seeds")
     add("--trace", type=Path, metavar="FILE", help="a trace in place of those of the plan")
-    add("--random", type=int, metavar="N", help="draw so many points, and do not run all")
+    add("--random", type=int, metavar="N", help="draw N points, and do not run all")
     add("--draw", type=int, default=1, metavar="SEED", help="with which number the drawing starts (1)")
     add("--jobs", type=int, default=os.cpu_count() or 1, metavar="N", help="processes on this machine (one for each processor)")
     add("--cluster", metavar="ADDRESS", help="the address of a scheduler of dask.distributed, whose workers make the runs")

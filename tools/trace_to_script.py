@@ -149,7 +149,7 @@ def check_files(options: argparse.Namespace) -> None:
 
 
 def settings_of(options: argparse.Namespace, pages: int) -> Settings:
-    """The setup, for targets of so many pages in all. Raises LimitError."""
+    """The setup, for targets of `pages` pages in all. Raises LimitError."""
     most = 100 if options.max is None else options.max
     least = 10 if options.min is None else options.min
     cap = most if options.cap is None else options.cap

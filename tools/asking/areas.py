@@ -1,7 +1,7 @@
 """Which memory is hot or cold in a span of a report, and how large its working sets are.
 
 The share of a page is the part of the passes in which the region that held it was found accessed, over all aggregations of
-the span. An area is a longest run of neighbours whose shares are the same, in whole steps of so many percent.
+the span. An area is a longest run of neighbours whose shares are the same when they are rounded down to a step of percent.
 """
 from __future__ import annotations
 

@@ -54,7 +54,7 @@ class Ledger:
     """The pages that went out at least once."""
     refaults: int = 0
     soon: int = 0
-    """The refaults at most so many aggregations after the page went out."""
+    """The refaults within that number of aggregations after the page went out."""
     prefetches: int = 0
     """Each time that `willneed` fetched a page back counts."""
     out: int = 0

@@ -87,7 +87,7 @@ class Truth:
     """What was true in an aggregation: a byte for each page. Those of a row are a slice, and are counted without a loop."""
 
     def __init__(self, pages: int, runs: Iterable[tuple[int, int, bool]]) -> None:
-        """Runs of accessed pages, each with whether they were hot; of so many pages in all."""
+        """Runs of accessed pages, each with whether they were hot; `pages` are all pages."""
         kinds = bytearray(UNTOUCHED) * pages
         for first, after, is_hot in runs:
             kinds[first:after] = (HOT if is_hot else ACCESSED) * (after - first)

@@ -53,7 +53,7 @@ class Field(NamedTuple):
 
     name: str
     bits: int
-    """Its greatest value has so many bits; 0 for an address."""
+    """The bits of its greatest value; 0 for an address."""
 
 
 def n8(name: str) -> Field:

@@ -52,7 +52,7 @@ class Machine:
 
 
 def machine_of(script: Script, sample: Fraction) -> Machine:
-    """The settings and schemes of a script that damon takes. A sampling interval lasts so many microseconds."""
+    """The settings and schemes of a script that damon takes. `sample` is the sampling interval in microseconds."""
     least, most, aggr = map(int, script.words("attrs"))
     clock, found = Clock(sample, aggr), Machine()
     found.options.append(["--monitoring_intervals", *map(time_words, (sample, clock.aggregation, UPDATE)), "--monitoring_nr_regions_range",

@@ -10,7 +10,7 @@ from .table import PointError
 
 
 def fixed_places(places: Sequence[str], regions: int, unit: int) -> list[str]:
-    """The lines of targets, with ranges that cut them into so many regions, of sizes that are as equal as can be. Raises PointError."""
+    """The lines of targets, with ranges that cut them into this number of regions, of sizes that are as equal as can be. Raises PointError."""
     targets = [line for line in places if line.startswith("target ")]
     sizes = [(int(base, 16), int(pages)) for _, base, pages in map(str.split, targets)]
     counts = shares([pages for _, pages in sizes], regions, unit)

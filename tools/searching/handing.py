@@ -8,7 +8,7 @@ from .table import Row
 
 MOST_OF_CHUNK = 32
 CHUNKS = 16
-"""Of few runs a process gets so many chunks, so that all processes end at about the same time."""
+"""Of few runs a process gets this number of chunks, so that all processes end at about the same time."""
 AHEAD = 4
 """How many chunks are handed out for each process, so that none of them waits."""
 

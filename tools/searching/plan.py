@@ -23,7 +23,7 @@ SETTINGS = ("interval", "unit", "cap", "min", "max", "aggr")
 """The settings of a point, in the order of the columns; the seed comes last."""
 SEED = "seed"
 PASSES = "passes"
-"""In place of `interval`: that of each kept trace which makes about so many passes."""
+"""In place of `interval`: that of each kept trace which makes about this number of passes."""
 TUNE = "tune"
 """The command of damon that takes goals."""
 TUNED = "tuned"
@@ -216,7 +216,7 @@ def settings_of(table: Table, are_traces: bool) -> dict[str, tuple[Value, ...]]:
 
 
 def interval_at(path: Path, passes: Value) -> int:
-    """The interval with which a kept trace has about so many passes. Raises UsageError."""
+    """The interval with which a kept trace has about this number of passes. Raises UsageError."""
     if not isinstance(passes, int) or passes < 1:
         raise UsageError(f"{PASSES} must be at least 1")
     if not is_kept(path):

@@ -39,7 +39,7 @@ class Points:
     """The points of a plan, in their order, each made when it is asked for."""
 
     def __init__(self, plan: Plan, draws: int | None, draw: int) -> None:
-        """With `draws` so many different points are drawn, by a generator that starts with `draw`. Raises UsageError."""
+        """With `draws` that number of different points is drawn, by a generator that starts with `draw`. Raises UsageError."""
         named = {**{name: plan.settings.get(name, OWN) for name in SETTINGS}, **plan.values}
         self.axes: Axes = [("", plan.workloads), *named.items()]
         self.intervals = plan.intervals

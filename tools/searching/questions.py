@@ -29,7 +29,7 @@ class Condition(NamedTuple):
     unit: str
 
     def one(self, pages: int, aggregations: int) -> float:
-        """One of the unit of the bound, for a workload with so many pages and a run with so many aggregations."""
+        """One of the unit of the bound, for a workload with these pages and a run with these aggregations."""
         return {"": 1.0, PERCENT: 0.01, OF_PAGES: pages / 100, EACH: float(max(1, aggregations))}[self.unit]
 
     def holds(self, value: float) -> bool:

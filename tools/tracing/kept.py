@@ -72,7 +72,7 @@ def kept_at(path: str | Path) -> Kept:
 
 
 def interval_of(kept: Kept, passes: int) -> int:
-    """The interval with which a kept trace has about so many passes."""
+    """The interval with which a kept trace has about this number of passes."""
     length, count = kept.recording.length, len(kept.recording.intervals)
     return length * max(1, (2 * count + passes) // (2 * passes))
 

@@ -74,7 +74,7 @@ def decode(line: bytes, letters: bytes) -> Pages:
 
 
 def pages_of(line: bytes, first: int, size: int) -> Pages:
-    """The pages of an access of so many bytes, by number. Raises TraceError, and BeyondError as `decode` does."""
+    """The pages of an access of `size` bytes, by number. Raises TraceError, and BeyondError as `decode` does."""
     if not 1 <= size <= LONGEST_ACCESS:
         raise TraceError(f"an access of {size} bytes: {shown(line)}")
     if first + size > USER_END:

@@ -17,9 +17,9 @@ from .script import Settings, Writer
 
 
 TARGET_SHARE = 5
-"""There should be so many regions for each target,"""
+"""The least regions for each target,"""
 REGION_PAGES = 10
-"""and for so many pages."""
+"""and the most pages for each region, for which no note is written."""
 FEW_PAGES = 2
 
 

@@ -54,7 +54,7 @@ def targets_of(histories: Iterable[History], areas: Sequence[NamedArea], labels:
 
 
 def kept_of(snapshots: Sequence[Snapshot], most: int) -> tuple[list[Snapshot], int]:
-    """The last snapshot and each N-th before it, with the least N at which they have at most so many rows; and that N."""
+    """The last snapshot and each N-th before it, with the least N at which they have at most `most` rows; and that N."""
     rows = [len(snapshot.regions) for snapshot in snapshots]
     step = 1
     while step < len(rows) and sum(rows[::-step]) > most:
@@ -73,7 +73,7 @@ class Shown:
 
 
 def packed_report(block: Block, shown: Shown, targets: Sequence[Target], most: int) -> dict[str, Any]:
-    """Puts the columns of a report into the block, of at most so many rows; gives what the page has of it besides."""
+    """Puts the columns of a report into the block, of at most `most` rows; gives what the page has of it besides."""
     history = shown.history
     snapshots, step = kept_of(history.snapshots, most)
     places = {target.number: (place, target.low << PAGE_BITS) for place, target in enumerate(targets)}
