@@ -52,7 +52,8 @@ def unsaid(page: str) -> list[str]:
     left = []
     for paragraph, block in NUMBERED.findall(page):
         there = re.findall(r"(?<![\w.])(?:0x[0-9a-f]+|\d+(?:\.\d+)?)(?!\w)", block)
-        left += [f"{text} in {paragraph[:60]!r}" for text in NUMBER.findall(plain(paragraph)) if not any(is_said(text, it) for it in there)]
+        missing = [text for text in NUMBER.findall(plain(paragraph)) if not any(is_said(text, it) for it in there)]
+        left += [f"{text} in {paragraph[:60]!r}" for text in missing]
     return left
 
 
