@@ -44,7 +44,8 @@ def is_said(text: str, number: str) -> bool:
     """Whether a number of a block is this text, by itself or when it is rounded to as many digits, also as a percentage."""
     if text.startswith("0x") or number.startswith("0x"):
         return text == number
-    return any(f"{value:.{len(text.partition('.')[2])}f}" == text.replace(",", "") for value in (float(number), 100 * float(number)))
+    digits = len(text.partition(".")[2])
+    return any(f"{value:.{digits}f}" == text.replace(",", "") for value in (float(number), 100 * float(number)))
 
 
 def unsaid(page: str) -> list[str]:
