@@ -44,7 +44,8 @@ def is_said(text: str, number: str) -> bool:
     """Whether a number of a block is this text, by itself or when it is rounded to as many digits, also as a percentage."""
     if text.startswith("0x") or number.startswith("0x"):
         return text == number
-    return any(f"{value:.{len(text.partition('.')[2])}f}" == text.replace(",", "") for value in (float(number), 100 * float(number)))
+    digits = len(text.partition(".")[2])
+    return any(f"{value:.{digits}f}" == text.replace(",", "") for value in (float(number), 100 * float(number)))
 
 
 def unsaid(page: str) -> list[str]:
@@ -52,7 +53,8 @@ def unsaid(page: str) -> list[str]:
     left = []
     for paragraph, block in NUMBERED.findall(page):
         there = re.findall(r"(?<![\w.])(?:0x[0-9a-f]+|\d+(?:\.\d+)?)(?!\w)", block)
-        left += [f"{text} in {paragraph[:60]!r}" for text in NUMBER.findall(plain(paragraph)) if not any(is_said(text, it) for it in there)]
+        missing = [text for text in NUMBER.findall(plain(paragraph)) if not any(is_said(text, it) for it in there)]
+        left += [f"{text} in {paragraph[:60]!r}" for text in missing]
     return left
 
 

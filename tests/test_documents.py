@@ -113,7 +113,8 @@ class Manuals(unittest.TestCase):
 
     def setUp(self) -> None:
         text = (TOP / "docs/FORMATS.md").read_text()
-        self.of_damond, self.of_damon = (self.statuses(text.split(f"\n## {head}\n")[1]) for head in ("Running `damond`", "Running the program"))
+        heads = ("Running `damond`", "Running the program")
+        self.of_damond, self.of_damon = (self.statuses(text.split(f"\n## {head}\n")[1]) for head in heads)
 
     def test_commands(self) -> None:
         words = rows_with_head("FORMATS.md", "words", "what is read from standard input", "what is written to standard output")

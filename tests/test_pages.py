@@ -22,7 +22,10 @@ class Blocks(Page):
 
 
 class Numbers(unittest.TestCase):
-    PAGE = "It found 87 % of 1,234 pages from 0x1000 on with `--max 50`.\n\n<!--\n```\ngrep hot out/a.csv\n0.8688 1234 0x1000\n```\n-->\n"
+    PAGE = (
+        "It found 87 % of 1,234 pages from 0x1000 on with `--max 50`.\n\n"
+        "<!--\n```\ngrep hot out/a.csv\n0.8688 1234 0x1000\n```\n-->\n"
+    )
 
     def test_a_hidden_block_has_the_numbers_before_it(self) -> None:
         self.assertEqual(unsaid(self.PAGE), [])
