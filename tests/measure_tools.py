@@ -22,10 +22,10 @@ from typing import NamedTuple
 from pages import BLOCK, UNTRIED, is_a_command
 from tool_runs import PROGRAM, TOOLS, TOP, need_program
 
-from search import workloads_of
 from searching.plan import plan_of
 from searching.points import Points
 from searching.runs import script_of
+from searching.searches import workloads_of
 
 PAGE = TOP / "docs/TUTORIAL.md"
 SMALL_RUNS = 2000
