@@ -1,4 +1,6 @@
-ghost use Rattle.std.specs.Prelude.{◌≡◌, ◌≤◌, ◌<◌, ◌^◌, Ok, Err, Some, true, false, IfOk, IfErr, OnOk, is_ok, [], ◌∷◌, ◌++◌, ◌+◌, ◌-◌, codes, length};
+ghost use Rattle.std.specs.Prelude.{◌≡◌, ◌≤◌, ◌<◌, ◌^◌, Ok, Err, Some, true, false, IfOk, IfErr, OnOk, is_ok, List, [], ◌∷◌, ◌++◌, ◌+◌, ◌-◌, codes, length};
+ghost use Rattle.damon_types.specs.declared.range.RangeSpec.{RangeSpec as spec};
+ghost use Rattle.damon_types.specs.declared.space.Target.{Target as target};
 ghost use Rattle.damon_types.specs.Space.{checked};
 ghost use Rattle.target_ranges.specs.Checked.{checked_ranges};
 ghost use Rattle.script_lines.specs.declared.setup.Frame.{Frame as frame};
@@ -67,15 +69,12 @@ fn read_numbers(lines: &mut Lines, form: Grammar) -> Result<(Version, u64, u32, 
 }
 
 // Reads the lines of the targets, at least one.
-pub fn read_targets(
-    alloc: Global,
-    lines: &mut Lines,
-    frame: &Frame,
-) -> Result<Vec<Target>, ReadFail>
+pub fn read_targets(alloc: Global, lines: &mut Lines) -> Result<Vec<Target>, ReadFail>
     requires { IsShort lines.old }
-    ensures ok { IfOk result (λ v. (g : grammar) →
-        MovesTo g (AtTargets frame.now []) lines.old (AtRanges frame.now v.items []) lines.new) }
-    ensures fault { (g : grammar) → FaultOf result (reads_left g (AtTargets frame.now []) lines.old) }
+    ensures ok { IfOk result (λ v. (g : grammar) (f : frame) →
+        MovesTo g (AtTargets f []) lines.old (AtRanges f v.items []) lines.new) }
+    ensures fault { (g : grammar) (f : frame) →
+        FaultOf result (reads_left g (AtTargets f []) lines.old) }
     ensures sound { IfOk result (λ v. checked v.items ≡ Ok tt) }
     ensures small { IsShort lines.new }
 {
@@ -186,15 +185,13 @@ pub fn read_slots(
     lines: &mut Lines,
     form: Grammar,
     frame: &Frame,
-    space: &Space,
-    specs: &RangeSpecs,
 ) -> Result<SlotChanges, ReadFail>
     requires small { IsShort lines.old }
-    ensures ok { IfOk result (λ slots.
-        MovesTo form (AtSchemes frame.now space.now specs.now.list []) lines.old
-        (AtSchemes frame.now space.now specs.now.list slots.list) lines.new) }
-    ensures fault { FaultOf result
-        (reads_left form (AtSchemes frame.now space.now specs.now.list []) lines.old) }
+    ensures ok { IfOk result (λ slots. (ts : List target) (rs : List spec) →
+        MovesTo form (AtSchemes frame.now ts rs []) lines.old
+        (AtSchemes frame.now ts rs slots.list) lines.new) }
+    ensures fault { (ts : List target) (rs : List spec) →
+        FaultOf result (reads_left form (AtSchemes frame.now ts rs []) lines.old) }
     ensures all { OnOk result (first_begins (codes "scheme") lines.new.rest.now ≡ false) }
     ensures sound { IfOk result (λ slots. checked_slots frame.now.version slots.list ≡ Ok tt) }
     ensures set { IfOk result (λ slots. kept_slots slots.list ≡ slots.list) }

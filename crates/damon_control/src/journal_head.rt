@@ -81,12 +81,7 @@ fn read_begin(lines: &mut Lines) -> Result<(), ScriptFault>
 
 /// Appends the head of a journal with this seed and setup, up to and with the line `begin`. When
 /// out of memory, a prefix was appended.
-pub fn write_journal_head(
-    alloc: Global,
-    out: &mut Vec<u8>,
-    seed: u64,
-    setup: &Setup,
-) -> Result<(), AllocError>
+pub fn write_journal_head(out: &mut Vec<u8>, seed: u64, setup: &Setup) -> Result<(), AllocError>
     ensures ok { OnOk result (out.new.items
         ≡ out.old.items ++ lines_text (head_lines seed (value_of setup.now))) }
     ensures kept { KeepsFront out.old.items out.new.items }

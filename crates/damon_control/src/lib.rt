@@ -52,4 +52,4 @@ pub use script_lines::{
     Command, MAX_PASSES, MAX_STEPS, MAX_TOUCHES, ScriptKind, body_lines_are_spelled,
     fields_are_spelled, schemes_are_spelled, setup_lines_are_spelled, spelled_lines_are_read,
 };
-pub use spelling::{write_commit, write_part, write_setup};
+pub use spelling::{write_commit, write_part, write_parts, write_setup};

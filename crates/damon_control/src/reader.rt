@@ -83,10 +83,10 @@ pub fn read_head(alloc: Global, lines: &mut Lines, form: Grammar) -> Result<Head
     ensures small { IsShort lines.new }
 {
     let frame = read_frame(lines, form)?;
-    let targets = read_targets(alloc, lines, &frame)?;
+    let targets = read_targets(alloc, lines)?;
     let space = make_space(alloc, &targets)?;
     let specs = read_ranges(alloc, lines, &frame, &space)?;
-    let slots = read_slots(alloc, lines, form, &frame, &space, &specs)?;
+    let slots = read_slots(alloc, lines, form, &frame)?;
     Ok(Head {
         frame,
         space,

@@ -66,10 +66,22 @@ pub fn write_commit(
     whole_or_nothing(out, before, written)
 }
 
+/// Appends the lines of a commit, as [`write_commit`] does. When out of memory, a prefix was appended.
+pub fn write_parts(out: &mut Vec<u8>, commit: &Commit) -> Result<(), AllocError>
+    ensures ok { OnOk result (out.new.items ≡ out.old.items ++ commit_text (commit_value commit.now)) }
+    ensures kept { KeepsFront out.old.items out.new.items }
+{
+    write_new_attrs(out, &commit.attrs)?;
+    write_new_ranges(out, &commit.ranges)?;
+    write_new_slot(out, &commit.slot)?;
+    write_new_metric(out, commit.metric)?;
+    write_new_cost(out, commit.cost)
+}
+
 /// Appends the line of one part of a commit, with its LF. When out of memory, a prefix was
 /// appended.
 #[tactic(auto, using(line_text::proofs::Lemmas::appends))]
-pub fn write_part(alloc: Global, out: &mut Vec<u8>, part: &Part) -> Result<(), AllocError>
+pub fn write_part(out: &mut Vec<u8>, part: &Part) -> Result<(), AllocError>
     ensures ok { OnOk result (out.new.items
         ≡ out.old.items ++ lines_text (part_text part.now ∷ [])) }
     ensures kept { KeepsFront out.old.items out.new.items }
@@ -163,18 +175,6 @@ fn write_changes(out: &mut Vec<u8>, changes: &[SlotChange]) -> Result<(), AllocE
         write_change_line(out, change)?;
     }
     Ok(())
-}
-
-// Appends the lines of the parts of a commit.
-fn write_parts(out: &mut Vec<u8>, commit: &Commit) -> Result<(), AllocError>
-    ensures ok { OnOk result (out.new.items ≡ out.old.items ++ commit_text (commit_value commit.now)) }
-    ensures kept { KeepsFront out.old.items out.new.items }
-{
-    write_new_attrs(out, &commit.attrs)?;
-    write_new_ranges(out, &commit.ranges)?;
-    write_new_slot(out, &commit.slot)?;
-    write_new_metric(out, commit.metric)?;
-    write_new_cost(out, commit.cost)
 }
 
 // Appends the line of new attributes, if there are some.

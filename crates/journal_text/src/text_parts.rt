@@ -205,7 +205,7 @@ fn write_head<'a>(
     ensures kept { KeepsFront out.old.items out.new.items }
 {
     let script = run.script;
-    write_journal_head(alloc, out, script.seed, &script.setup)?;
+    write_journal_head(out, script.seed, &script.setup)?;
     Ok(Part::Entries {
         next: 0,
         results: Results {

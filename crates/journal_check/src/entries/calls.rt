@@ -275,6 +275,6 @@ fn is_spelled(alloc: Global, line: &[u8], part: &Part) -> Result<bool, AllocErro
     ensures { IfOk result (λ same. same ≡ same_word line.now (part_text part.now)) }
 {
     let mut wanted = Vec::new(alloc);
-    write_part(alloc, &mut wanted, part)?;
+    write_part(&mut wanted, part)?;
     Ok(same_word(line, without_end(&wanted)))
 }
