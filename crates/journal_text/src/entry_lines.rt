@@ -60,8 +60,8 @@ fn write_check(out: &mut Vec<u8>, pass: u64, loaded: LoadRun<'_>) -> Result<(), 
     end_line(out)
 }
 
-// Appends a digit for each result. They are read a block at a time, since a word then is loaded once for all of
-// its results.
+// Appends a digit for each result. They are read a block at a time, since a word then is loaded once for all
+// of its results.
 fn write_bits(out: &mut Vec<u8>, loaded: LoadRun<'_>) -> Result<(), AllocError>
     ensures ok { OnOk result (out.new.items ≡ out.old.items ++ map bit_digit (loads_in loaded.entry)) }
     ensures kept { KeepsFront out.old.items out.new.items }

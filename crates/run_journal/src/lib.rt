@@ -1,5 +1,5 @@
-//! The journal of a live run, in memory: its entries and results, the receipts of touches beside it, the monitor
-//! that carries it out, and the laws of journals.
+//! The journal of a live run, in memory: its entries and results, the receipts of touches beside it, the
+//! monitor that carries it out, and the laws of journals.
 #![tactic(auto)]
 
 /// Results that are kept as bits.
@@ -10,7 +10,7 @@ mod calls;
 mod entry;
 /// The journal.
 mod journal;
-/// What is counted of a lawful journal, and why a text is none.
+/// What is counted of a lawful journal, and why a text was not verified.
 mod lawful;
 /// Laws of the definitions.
 mod laws;

@@ -1,4 +1,4 @@
-use Rattle.std.proofs.Common.{◌∙◌, ◌-◌, ◌++◌, ◌∷◌, [], ap, arith}
+use Rattle.std.proofs.Common.{◌∙◌, ◌++◌, ◌∷◌, [], ap, arith}
 use Rattle.script_lines.specs.Lines.{lines_text}
 use Rattle.journal_text.specs.Spelled.{spelled_seen}
 use Rattle.journal_text.proofs.SeenGroups.{group_more}

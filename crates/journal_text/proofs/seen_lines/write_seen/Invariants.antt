@@ -1,4 +1,4 @@
-use Rattle.std.proofs.Common.{◌≡◌, ◌-◌, ◌≤◌, ◌++◌, drop, length, map}
+use Rattle.std.proofs.Common.{◌≡◌, ◌-◌, ◌++◌, drop, length, map}
 use Rattle.line_text.specs.Appended.{KeepsFront}
 use Rattle.script_lines.specs.Lines.{lines_text}
 use Rattle.journal_text.specs.Spelled.{spelled_seen}

@@ -1,5 +1,4 @@
 use Rattle.std.proofs.Common.{◌≡◌, ◌+◌, ◌<◌, ◌∷◌, [], List, codes, drop, arith}
-use Rattle.std.specs.List.{AllByRecursion}
 use Rattle.damon_types.specs.Space.{pages_of}
 use Rattle.damon_control.specs.LiveView.{live_said}
 use Rattle.run_journal.specs.declared.entry.Receipt.{Receipt}
