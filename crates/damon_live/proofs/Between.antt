@@ -8,7 +8,6 @@ use Rattle.atomic_table.specs.Seated.{TableId}
 use Rattle.rand_core.specs.Stream.{Stream}
 use Rattle.rand_pcg.specs.Lcg.{Lcg}
 use Rattle.sampler.specs.Draws.{drawn, drawn_rest}
-use Rattle.damon_types.specs.declared.row.Row.{Row}
 use Rattle.damon_types.specs.Space.{pages_of}
 use Rattle.live_commit.specs.declared.fault.CommitFault.{CommitFault}
 use Rattle.live_commit.specs.declared.phase.Phase.{Phase}
@@ -16,8 +15,8 @@ use Rattle.live_commit.specs.declared.phase.Phase.TheVariants.{Idle, Clearing, A
 use Rattle.live_commit.specs.Commit.{CommitValue}
 use Rattle.page_words.specs.Clears.{last_clear_of}
 use Rattle.page_words.specs.Seats.{MonitorSeatView}
-use Rattle.damon_core.specs.Commit.{becomes_void, phase_after_commit, check_of, committed_core, core_after_commit, if_accepted}
-use Rattle.damon_core.specs.Event.{aggregate, commit}
+use Rattle.damon_core.specs.Commit.{becomes_void, check_of, committed_core, if_accepted}
+use Rattle.damon_core.specs.Event.{aggregate}
 use Rattle.damon_core.specs.Makes.{Makes, Reached-run}
 use Rattle.damon_core.specs.Reached.{Reached, run}
 use Rattle.damon_core.specs.State.{Core}
@@ -27,12 +26,11 @@ use Rattle.damon_control.specs.Live.{CallValue, CommitCall, LiveValue, ShowCall}
 use Rattle.run_journal.specs.declared.entry.CallAnswer.{CallAnswer}
 use Rattle.run_journal.specs.declared.entry.Entry.TheVariants.{Aggregate, Call}
 use Rattle.run_journal.specs.Phases.{IsFree, passes_open}
-use Rattle.run_journal.specs.Replay.{EntryFits, JournalValue, Replayed, call_answer, call_at, call_event, check_sizes, entry_events, replay}
+use Rattle.run_journal.specs.Replay.{EntryFits, JournalValue, Replayed, call_answer, call_at, call_event, check_sizes, core_after_call, entry_events, replay}
 use Rattle.run_journal.specs.Steps.{steps}
 use Rattle.sampler.specs.Seeds.{words_from}
 use Rattle.run_journal.specs.Words.{words_after, words_at}
 use Rattle.run_journal.specs.Growth.{GrowsByOthers}
-use Rattle.damon_live.specs.Called.{IsCalled}
 use Rattle.sampler.proofs.Lemmas.{drawn_rest-append}
 use Rattle.damon_live.specs.Machine.{IsBetweenEntries, IsLoadable, IsRun, entries_owed, with_one, words_owed}
 
@@ -43,6 +41,18 @@ pub record IsAggregated (m now : MonitorView) (g left : Lcg) : Type 0 where
   pub phase : now.core.phase ≡ Idle
   pub ticks : now.core.ticks ≡ m.core.ticks
   pub space : now.core.space ≡ m.core.space
+
+-- a call leaves the words and the steps; what a commit does to an armed pass it does to its phase alone
+pub record IsCalled (call : CallValue) (m now : MonitorView) : Type 0 where
+  pub event : Makes Stands m now (call_event call ∷ [])
+  pub ticks : now.core.ticks ≡ m.core.ticks
+  pub space : now.core.space ≡ m.core.space
+  pub cap : now.core.regions.cap ≡ m.core.regions.cap
+  pub free : IsFree now.core.phase
+  pub opened : passes_open now.core.phase ≡ passes_open m.core.phase
+  pub owed : entries_owed now.core.phase ≡ entries_owed m.core.phase
+  pub words : words_owed now.core.phase ≡ words_owed m.core.phase
+  pub picks : IsLoadable now.core.phase → IsLoadable m.core.phase × (now.core.picks ≡ m.core.picks)
 
 pub aggregated_run : (v : LiveValue) (table : TableId) (m now : MonitorView) (seat : MonitorSeatView) (j next : JournalValue) (ks : List ℕ) (g left : Lcg) (count tick more : ℕ) → GrowsByOthers → IsRun v table m seat j ks g count → IsAggregated m now g left → m.core.phase ≡ Due → tick ≡ m.core.ticks → more ≡ count + 2 * m.core.attrs.max → next ≡ with_one (Aggregate tick count) j
     → IsRun v table now seat next ks left more
@@ -118,30 +128,38 @@ loadable_if_void : (ph : Phase) (b : Bool) → IsLoadable (cond b VoidPhase ph) 
 loadable_if_void ph true may = absurd may
 loadable_if_void ph false may = may
 
-pub free_after_commit : (parts : CommitValue) (r : Result (Unit {0}) CommitFault) (c : Core) → IsFree c.phase → IsFree (if_accepted r (committed_core parts c) c).phase
+free_after_commit : (parts : CommitValue) (r : Result (Unit {0}) CommitFault) (c : Core) → IsFree c.phase → IsFree (if_accepted r (committed_core parts c) c).phase
 free_after_commit parts (Ok t) c free = free_if_void c.phase (becomes_void c.phase c.regions.rows (committed_core parts c).regions.rows) free
 free_after_commit parts (Err fault) c free = free
 
-pub picks_after_commit : (parts : CommitValue) (r : Result (Unit {0}) CommitFault) (c : Core) → IsLoadable (if_accepted r (committed_core parts c) c).phase → IsLoadable c.phase × ((if_accepted r (committed_core parts c) c).picks ≡ c.picks)
+picks_after_commit : (parts : CommitValue) (r : Result (Unit {0}) CommitFault) (c : Core) → IsLoadable (if_accepted r (committed_core parts c) c).phase → IsLoadable c.phase × ((if_accepted r (committed_core parts c) c).picks ≡ c.picks)
 picks_after_commit parts (Ok t) c may = (loadable_if_void c.phase (becomes_void c.phase c.regions.rows (committed_core parts c).regions.rows) may, refl)
 picks_after_commit parts (Err fault) c may = (may, refl)
 
-by_commit : (parts : CommitValue) (m now : MonitorView) (f : Phase → ℕ) → f Armed ≡ f VoidPhase → now.core ≡ core_after_commit parts m.core → f now.core.phase ≡ f m.core.phase
-by_commit parts m now f same core = ap (λ (c : Core). f c.phase) core ∙ phase_kept f same parts (check_of parts m.core) m.core
+pub free_after_call : (call : CallValue) (c : Core) → IsFree c.phase → IsFree (core_after_call call c).phase
+free_after_call ShowCall c free = free
+free_after_call (CommitCall parts) c free = free_after_commit parts (check_of parts c) c free
 
--- a show and a commit, as the monitor makes them
-pub shown : (m : MonitorView) → IsFree m.core.phase → IsCalled ShowCall m m
-shown m free = record { event = λ s reached stands. ((tt, tt), stands); ticks = refl; space = refl; cap = refl; free = free; picks = λ may. (may, refl); opened = refl; owed = refl; words = refl }
+picks_after_call : (call : CallValue) (c : Core) → IsLoadable (core_after_call call c).phase → IsLoadable c.phase × ((core_after_call call c).picks ≡ c.picks)
+picks_after_call ShowCall c may = (may, refl)
+picks_after_call (CommitCall parts) c may = picks_after_commit parts (check_of parts c) c may
 
-pub committed_call : (parts : CommitValue) (m now : MonitorView) → IsFree m.core.phase → Makes Stands m now (commit parts ∷ []) → now.core ≡ core_after_commit parts m.core → now.core.ticks ≡ m.core.ticks → now.core.space ≡ m.core.space → now.core.regions.cap ≡ m.core.regions.cap → IsCalled (CommitCall parts) m now
-committed_call parts m now free event core ticks space cap = record {
-  cap = cap;
-  opened = by_commit parts m now passes_open refl core;
-  owed = by_commit parts m now entries_owed refl core;
-  words = by_commit parts m now words_owed refl core;
-  event = event;
-  ticks = ticks;
-  space = space;
-  free = subst (λ (c : Core). IsFree c.phase) (sym core) (free_after_commit parts (check_of parts m.core) m.core free);
-  picks = λ may. (let was = picks_after_commit parts (check_of parts m.core) m.core (subst (λ (c : Core). IsLoadable c.phase) core may) in (was.0, ap (λ (c : Core). c.picks) core ∙ was.1));
-}
+pub kept_by_call : (call : CallValue) (c : Core) (f : Phase → ℕ) → f Armed ≡ f VoidPhase → f (core_after_call call c).phase ≡ f c.phase
+kept_by_call ShowCall c f same = refl
+kept_by_call (CommitCall parts) c f same = phase_kept f same parts (check_of parts c) c
+
+-- a call, as the monitor makes it
+pub call_made : (call : CallValue) (m now : MonitorView) → IsFree m.core.phase → Makes Stands m now (call_event call ∷ []) → now.core ≡ core_after_call call m.core → now.core.ticks ≡ m.core.ticks → now.core.space ≡ m.core.space → now.core.regions.cap ≡ m.core.regions.cap → IsCalled call m now
+call_made call m now free event core ticks space cap =
+    let kept : (f : Phase → ℕ) → f Armed ≡ f VoidPhase → f now.core.phase ≡ f m.core.phase = λ f same. ap (λ (c : Core). f c.phase) core ∙ kept_by_call call m.core f same in
+    record {
+      cap = cap;
+      opened = kept passes_open refl;
+      owed = kept entries_owed refl;
+      words = kept words_owed refl;
+      event = event;
+      ticks = ticks;
+      space = space;
+      free = subst (λ (c : Core). IsFree c.phase) (sym core) (free_after_call call m.core free);
+      picks = λ may. (let was = picks_after_call call m.core (subst (λ (c : Core). IsLoadable c.phase) core may) in (was.0, ap (λ (c : Core). c.picks) core ∙ was.1));
+    }

@@ -1,40 +1,14 @@
--- How often a source or a sink was called in several calls.
-use Rattle.std.proofs.Common.{◌≡◌, ◌≤◌, ℕ, Err, refl, ap, arith}
+-- What a text that was not handed over ends a run with.
+use Rattle.std.proofs.Common.{Err, refl}
 use Rattle.std.specs.Prelude.{IsErrOf}
-use Rattle.damon_types.specs.Calls.{EndsAtFault, Rose}
+use Rattle.damon_types.specs.Calls.{EndsAtFault}
 use Rattle.damon_types.specs.declared.calls.Calls.{Calls}
 use Rattle.text_io.specs.declared.source.PumpFault.{PumpFault}
 use Rattle.text_io.specs.declared.source.PumpFault.TheVariants as pumps
+use Rattle.text_io.proofs.Lemmas.{EndsAtFault-as, EndsAtFault-not}
 use Rattle.run_status.specs.Status.{EndsRun, pump_status}
 use Rattle.run_status.specs.declared.status.Status.{Status}
-use Rattle.run_status.specs.declared.status.Status.TheVariants.{Memory, WriteFault}
-
--- the same, where the failure has another name
-pub EndsAtFault-as : {P Q : Type 0} {a b : Calls} → (Q → P) → (P → Q) → EndsAtFault P a b → EndsAtFault Q a b
-EndsAtFault-as here there ends = record {
-  one = λ q. ends.one (here q);
-  none = λ not. ends.none (λ p. not (there p));
-  late = ends.late;
-}
-
--- none failed, and what would say so does not hold
-pub EndsAtFault-not : {P Q : Type 0} {a b : Calls} → (P → ⊥) → (Q → ⊥) → EndsAtFault P a b → EndsAtFault Q a b
-EndsAtFault-not here there = EndsAtFault-as (λ q. absurd (there q)) (λ p. absurd (here p))
-
--- no call was made
-pub EndsAtFault-none : {P : Type 0} (c : Calls) → (P → ⊥) → EndsAtFault P c c
-EndsAtFault-none c not = record { one = λ p. absurd (not p); none = λ _. refl; late = λ _. refl }
-
--- a result that is an error of a kind is one that has that error
-pub EndsAtFault-error : {T E : Type 0} {x y : E} {a b : Calls} → EndsAtFault (IsErrOf {T = T} {E = E} (Err x) y) a b → EndsAtFault (x ≡ y) a b
-EndsAtFault-error {T} {E} {x} {y} = EndsAtFault-as (λ e. ap (λ z. Err z) e) (λ e. cc e)
-
-at_least : {n m : ℕ} → m ≡ n → n ≤ m
-at_least same = omega (arith, same)
-
--- where one failed, the count of failures rose
-pub EndsAtFault-rose : {P : Type 0} {a b : Calls} → P → EndsAtFault P a b → Rose a b
-EndsAtFault-rose p ends = at_least (ends.one p)
+use Rattle.run_status.specs.declared.status.Status.TheVariants.{WriteFault}
 
 -- a text that was not handed over ends the run
 pub pump_ends : (f : PumpFault) → EndsRun (pump_status f)

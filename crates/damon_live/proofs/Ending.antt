@@ -28,7 +28,7 @@ use Rattle.damon_live.specs.declared.top.TheConstants.{MAX_RESULTS}
 use Rattle.damon_live.specs.Answers.{IsEnding}
 use Rattle.damon_live.specs.Ending.{Ending, HasRun, TellsFault, TellsPasses, ended_early, most_results, status_of_input, status_of_spelled}
 use Rattle.damon_live.specs.Whole.{IsWholeRun}
-use Rattle.damon_live.proofs.Counting.{EndsAtFault-as, EndsAtFault-error, EndsAtFault-none, EndsAtFault-not, EndsAtFault-rose}
+use Rattle.text_io.proofs.Lemmas.{EndsAtFault-as, EndsAtFault-error, EndsAtFault-none, EndsAtFault-not, EndsAtFault-rose}
 use Rattle.damon_live.proofs.Known.{few_not_over, had_over, none_given, read_whole, untold}
 
 -- a fault is its line and its kind

@@ -1,7 +1,6 @@
 pub mod Names
 pub mod Passes
 pub mod Machine
-pub mod Called
 pub mod Kept
 pub mod Plain
 pub mod Whole

@@ -15,8 +15,6 @@ mod alone;
 mod begin;
 /// Workers, controllers and passes beside each other.
 mod beside;
-/// The calls of controllers.
-mod calls;
 /// The end of a run.
 mod ends;
 /// What workers are given.

@@ -16,7 +16,6 @@ ghost use Rattle.run_journal.specs.Steps.{steps};
 ghost use Rattle.damon_live.specs.Machine.{aggregate_after, calls_left, passes_made, prepare_after, with_one};
 ghost use Rattle.damon_live.specs.declared.top.TheConstants.{MAX_RESULTS};
 
-use crate::calls::make_call;
 use crate::kept::{Kept1, KeptParts};
 use crate::named::Named;
 use crate::passes::load_all;
@@ -25,7 +24,7 @@ use damon_core::Monitor;
 use live_commit::Phase;
 use page_words::{MonitorSeat, PageWords};
 use rand_pcg::Lcg64Xsh32;
-use run_journal::{Journal, journals_grow};
+use run_journal::{Journal, journals_grow, make_call};
 use sampler::{draw_words, generator};
 use std::alloc::{AllocError, Global};
 use std::marker::{Model, PhantomData};

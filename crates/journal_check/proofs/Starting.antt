@@ -1,17 +1,14 @@
 -- A journal of which nothing is carried out yet.
 use Rattle.std.proofs.Common.{◌≡◌, ℕ, ◌≤◌, List, length, refl, sym, ap, ◌∙◌, subst, arith}
 use Rattle.live_commit.specs.Setup.{SetupValue}
-use Rattle.damon_core.specs.Reached.{CanOpen}
 use Rattle.damon_control.specs.declared.reader.TheConstants.{MAX_BYTES}
 use Rattle.damon_control.specs.Live.{LiveValue}
-use Rattle.run_journal.specs.declared.entry.Receipt.{Receipt}
 use Rattle.journal_check.specs.declared.entries.kept.Kept.{Kept}
 use Rattle.journal_check.specs.declared.entries.kept.Keeping.TheVariants.{Everything}
 use Rattle.run_journal.specs.declared.lawful.Lawful.{Lawful}
 use Rattle.run_journal.specs.Aggregated.{aggregated, aggregated_from}
 use Rattle.run_journal.specs.Few.{HitsAreFew}
 use Rattle.journal_check.specs.Kept.{IsKept, IsOfJournal}
-use Rattle.run_journal.specs.Lawful.{IsLawful}
 use Rattle.journal_text.specs.Reading.{read_journal}
 use Rattle.run_journal.specs.Replay.{EntriesFit, IsJournalOf, JournalValue, begun, replay, replay_from}
 use Rattle.journal_check.specs.Replayer.{IsOnWay, Leads, ReplayerView, ReadsRun, replayer_of}

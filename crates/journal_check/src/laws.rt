@@ -4,12 +4,7 @@ ghost use Rattle.journal_text.specs.Reading.{read_journal};
 ghost use Rattle.journal_check.specs.SeenFront.{ReadsLeadingSeen};
 ghost use Rattle.journal_check.specs.Verified.{IsOfNoLawfulRun};
 
-use journal_text::lawful_journals_are_read;
-use line_text::{
-    address_is_spelled, decimal_has_digits, decimal_is_read, number_is_decimal, parts_are_pieces,
-    pieces_are_parts, spelled_address_has_digits, spelled_address_is_read,
-    stripped_front_was_first,
-};
+use journal_text::{lawful_journals_are_read, words_have_laws};
 
 /// A text with a rejected line is that of no lawful journal that a text can spell.
 pub fn rejected_texts_are_unlawful()
@@ -22,13 +17,5 @@ pub fn rejected_texts_are_unlawful()
 pub(crate) fn leading_receipts_are_read()
     ensures { ReadsLeadingSeen }
 {
-    parts_are_pieces();
-    pieces_are_parts();
-    number_is_decimal();
-    decimal_is_read();
-    decimal_has_digits();
-    address_is_spelled();
-    spelled_address_is_read();
-    spelled_address_has_digits();
-    stripped_front_was_first();
+    words_have_laws();
 }

@@ -1,5 +1,5 @@
-//! The check of a journal text: the reader of its entries and receipts, and the journal that was read, carried
-//! out from one aggregation to the next.
+//! The check of a journal text: the reader of its entries and receipts, and the journal that was read,
+//! carried out from one aggregation to the next.
 #![tactic(auto)]
 
 /// The head and the last lines of a journal text.

@@ -34,7 +34,8 @@ pub fn verify(alloc: Global, bytes: &[u8]) -> Result<Lawful, VerifyFault>
     // It is accepted exactly where it is read line by line; else its first rejected line is named.
     ensures line { IfErr result (λ fault. IsFault fault (read_journal bytes.now)) }
 {
-    // For their clauses alone: what is read is lawful and so one run with few hits, and what is rejected is not lawful.
+    // For their clauses alone: what is read is lawful, and so one run with few hits, and what is rejected is
+    // not lawful.
     read_journals_are_lawful();
     woven_runs();
     hits_are_few();

@@ -1,6 +1,6 @@
 -- The lines of entries: what a line may say after the entries before it. Where the state determines a line, it is compared with that
 -- line; only the results of a check, the controller of a call and the parts of its commit are read.
-use Rattle.std.specs.Prelude.{ℕ, ◌+◌, Bool, true, false, ◌&&◌, ◌==◌, nat_le, List, [], ◌∷◌, ◌++◌, codes, length, Option, Some, None, Result, Ok, Err, option_and_then, option_map, if◌then◌else◌}
+use Rattle.std.specs.Prelude.{ℕ, ◌+◌, Bool, true, false, ◌&&◌, ◌==◌, nat_le, List, [], ◌∷◌, codes, length, Option, Some, None, Result, Ok, Err, option_and_then, option_map, if◌then◌else◌}
 use Rattle.std.specs.Option.{option_or}
 use Rattle.line_text.specs.Line.{after_prefix}
 use Rattle.live_commit.specs.declared.phase.Phase.{Phase}

@@ -1,5 +1,5 @@
 -- What a text asks of a journal besides that it is lawful, and how texts and lawful journals belong together.
-use Rattle.std.specs.Prelude.{◌≡◌, ℕ, ◌+◌, ◌≤◌, ◌<◌, zero, suc, List, [], ◌∷◌, ◌++◌, length, replicate, slice_index_or, Some, Ok}
+use Rattle.std.specs.Prelude.{◌≡◌, ℕ, ◌+◌, ◌≤◌, ◌<◌, zero, suc, List, [], ◌∷◌, ◌++◌, length, replicate, slice_index_or, Ok}
 use Rattle.std.specs.List.{AllByRecursion, Contains}
 use Rattle.damon_control.specs.declared.live.TheConstants.{MAX_WORKERS}
 use Rattle.damon_control.specs.declared.reader.TheConstants.{MAX_BYTES}

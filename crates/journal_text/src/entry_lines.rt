@@ -11,21 +11,19 @@ ghost use Rattle.run_journal.specs.Results.{loads_in};
 ghost use Rattle.journal_text.specs.Text.{entry_lines};
 
 use crate::line_parts::{write_line, write_pair, write_pair_line};
-use damon_control::{Call, CallLists, LiveScript, write_commit};
+use damon_control::{Call, CallLists, LiveScript, write_parts};
 use damon_core::Changed;
-use damon_types::Space;
 use line_text::{append_field, end_line};
 use run_journal::{CallAnswer, Entry, LoadRun};
 use script_lines::write_number_line;
 use snapshot_print::print_answer;
-use std::alloc::{AllocError, Global};
+use std::alloc::AllocError;
 
 // How many results are read at once.
 const BLOCK: u32 = 256;
 
 // Appends the lines of an entry, with the results of its loads.
 pub(crate) fn write_entry(
-    alloc: Global,
     out: &mut Vec<u8>,
     script: &LiveScript,
     entry: &Entry,
@@ -45,7 +43,7 @@ pub(crate) fn write_entry(
             controller,
             index,
             answer,
-        } => write_call(alloc, out, script, controller, index, answer),
+        } => write_call(out, script, controller, index, answer),
     }
 }
 
@@ -62,8 +60,8 @@ fn write_check(out: &mut Vec<u8>, pass: u64, loaded: LoadRun<'_>) -> Result<(), 
     end_line(out)
 }
 
-// Appends a digit for each result. They are read a block at a time, since a word then is loaded once for all of
-// its results.
+// Appends a digit for each result. They are read a block at a time, since a word then is loaded once for all
+// of its results.
 fn write_bits(out: &mut Vec<u8>, loaded: LoadRun<'_>) -> Result<(), AllocError>
     ensures ok { OnOk result (out.new.items ≡ out.old.items ++ map bit_digit (loads_in loaded.entry)) }
     ensures kept { KeepsFront out.old.items out.new.items }
@@ -101,7 +99,6 @@ fn bit_digit(bit: bool) -> u8
 
 // Appends the lines of a call and of its answer, if the script has the call.
 fn write_call(
-    alloc: Global,
     out: &mut Vec<u8>,
     script: &LiveScript,
     controller: u32,
@@ -117,7 +114,7 @@ fn write_call(
     match call_at(&script.controllers, controller, index) {
         None => Ok(()),
         Some(call) => {
-            write_asked(alloc, out, &script.setup.space, controller, index, call)?;
+            write_asked(out, controller, index, call)?;
             write_answer(out, answer)
         }
     }
@@ -135,9 +132,7 @@ fn call_at(lists: &CallLists, controller: u32, index: u32) -> Option<&Call>
 // Appends the lines of a call before its answer.
 #[tactic(auto, using(line_text::proofs::Lemmas::appends))]
 fn write_asked(
-    alloc: Global,
     out: &mut Vec<u8>,
-    space: &Space,
     controller: u32,
     index: u32,
     call: &Call,
@@ -152,7 +147,7 @@ fn write_asked(
         Call::Show => write_line(out, b"show"),
         Call::Commit { commit } => {
             write_line(out, b"commit")?;
-            write_commit(alloc, out, space, commit)?;
+            write_parts(out, commit)?;
             write_line(out, b"apply")
         }
     }

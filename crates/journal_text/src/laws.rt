@@ -1,4 +1,5 @@
 // Laws of the definitions. No function here does anything.
+ghost use Rattle.script_lines.specs.Laws.{WordLaws};
 ghost use Rattle.journal_text.specs.Examples.{Comes};
 ghost use Rattle.journal_text.specs.Rules.{ReadsLawfulBack, ReadsOnlyLawful};
 
@@ -15,6 +16,21 @@ use script_lines::body_lines_are_spelled;
 pub fn one_pass_by_hand()
     ensures { Comes }
 {}
+
+/// The laws of words, numbers and addresses, in one record.
+pub fn words_have_laws()
+    ensures laws { WordLaws }
+{
+    parts_are_pieces();
+    pieces_are_parts();
+    number_is_decimal();
+    decimal_is_read();
+    decimal_has_digits();
+    address_is_spelled();
+    spelled_address_is_read();
+    spelled_address_has_digits();
+    stripped_front_was_first();
+}
 
 /// Each text that is read as a journal, of at most as many bytes as a text may have, is the text of a lawful
 /// one that a text can spell, which is what was read.
@@ -39,15 +55,7 @@ pub fn read_journals_are_lawful()
 pub fn lawful_journals_are_read()
     ensures law { ReadsLawfulBack }
 {
-    parts_are_pieces();
-    pieces_are_parts();
-    number_is_decimal();
-    decimal_is_read();
-    decimal_has_digits();
-    address_is_spelled();
-    spelled_address_is_read();
-    spelled_address_has_digits();
-    stripped_front_was_first();
+    words_have_laws();
     front_is_stripped();
     commits_are_read_in_parts();
     journal_heads_are_exactly_read();

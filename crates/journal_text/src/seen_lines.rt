@@ -22,31 +22,38 @@ const GROUP: u32 = 16;
 // Bytes enough for the lines of a group.
 const GROUP_ROOM: usize = LINE_ROOM * GROUP as usize;
 
+// The receipts of a worker, and the space that their pages are in.
+#[derive(Clone, Copy)]
+pub(crate) struct OwnReceipts<'a> {
+    pub(crate) space: &'a Space,
+    pub(crate) worker: u32,
+    pub(crate) receipts: &'a ReceiptList,
+}
+
 // Appends the lines of the receipts of a worker from the one with index `next` on, until `out` has `limit`
 // bytes or none is left, and returns the index after them.
 pub(crate) fn write_seen(
     out: &mut Vec<u8>,
-    space: &Space,
-    worker: u32,
-    receipts: &ReceiptList,
+    own: &OwnReceipts<'_>,
     next: u32,
     limit: usize,
 ) -> Result<u32, AllocError>
-    requires { AllByRecursion (λ r. r.page < pages_of space.now) receipts.now.list }
-    ensures ok { IfOk result (λ at.
-        out.new.items ++ lines_text (map (spelled_seen space.now worker) (drop at receipts.now.list))
-        ≡ out.old.items ++ lines_text (map (spelled_seen space.now worker) (drop next receipts.now.list))) }
-    ensures stops { IfOk result (λ at. at < length receipts.now.list → limit ≤ vec_len out.new) }
+    requires { AllByRecursion (λ r. r.page < pages_of own.now.space.now) own.now.receipts.now.list }
+    ensures ok { IfOk result (λ at. out.new.items
+        ++ lines_text (map (spelled_seen own.now.space.now own.now.worker) (drop at own.now.receipts.now.list))
+        ≡ out.old.items
+        ++ lines_text (map (spelled_seen own.now.space.now own.now.worker) (drop next own.now.receipts.now.list))) }
+    ensures stops { IfOk result (λ at. at < length own.now.receipts.now.list → limit ≤ vec_len out.new) }
     ensures kept { KeepsFront out.old.items out.new.items }
 {
     let mut lines = [0; GROUP_ROOM];
     let mut at = next;
-    'groups: while at < receipts.len() {
+    'groups: while at < own.receipts.len() {
         if out.len() >= limit {
             return Ok(at);
         }
-        let count = GROUP.min(receipts.len() - at);
-        let start = group_before(&mut lines, space, worker, receipts, at, count);
+        let count = GROUP.min(own.receipts.len() - at);
+        let start = group_before(&mut lines, own, at, count);
         out.extend_from_slice(&lines[start..])?;
         at += count;
     }
@@ -55,28 +62,28 @@ pub(crate) fn write_seen(
 
 // Writes the lines of `count` receipts from one on so that they end where the array ends, the last of them
 // first, and returns the index where they begin.
-fn group_before(
-    lines: &mut [u8],
-    space: &Space,
-    worker: u32,
-    receipts: &ReceiptList,
-    from: u32,
-    count: u32,
-) -> usize
-    requires pages { AllByRecursion (λ r. r.page < pages_of space.now) receipts.now.list }
-    requires few { from + count ≤ length receipts.now.list }
+fn group_before(lines: &mut [u8], own: &OwnReceipts<'_>, from: u32, count: u32) -> usize
+    requires pages { AllByRecursion (λ r. r.page < pages_of own.now.space.now) own.now.receipts.now.list }
+    requires few { from + count ≤ length own.now.receipts.now.list }
     requires sum { from + count < 2 ^ 32 }
     requires room { 87 * count ≤ length lines.old }
     ensures start { result ≤ length lines.new }
     ensures len { length lines.new ≡ length lines.old }
     ensures written { drop result lines.new
-        ≡ lines_text (map (spelled_seen space.now worker) (take count (drop from receipts.now.list))) }
+        ≡ lines_text (map (spelled_seen own.now.space.now own.now.worker)
+        (take count (drop from own.now.receipts.now.list))) }
 {
     let mut start = lines.len();
     let mut left = count;
     'lines: while left > 0 {
         left -= 1;
-        start = seen_before(lines, start, space, worker, &receipts.get(from + left));
+        start = seen_before(
+            lines,
+            start,
+            own.space,
+            own.worker,
+            &own.receipts.get(from + left),
+        );
     }
     start
 }

@@ -14,7 +14,7 @@ ghost use Rattle.journal_text.specs.declared.text_parts.Part.TheVariants.{Head a
 
 use crate::entry_lines::write_entry;
 use crate::line_parts::write_line;
-use crate::seen_lines::write_seen;
+use crate::seen_lines::{OwnReceipts, write_seen};
 use damon_control::{LiveScript, write_journal_head};
 use damon_core::Monitor;
 use run_journal::{Journal, Receipts, Results};
@@ -182,8 +182,8 @@ fn write_part<'a>(
     ensures kept { KeepsFront out.old.items out.new.items }
 {
     match part {
-        Part::Head => write_head(alloc, out, run),
-        Part::Entries { next, results } => write_entries(alloc, out, run, next, results, limit),
+        Part::Head => write_head(out, run),
+        Part::Entries { next, results } => write_entries(out, run, next, results, limit),
         Part::Receipts { worker, next } => write_receipts(out, run, worker, next, limit),
         Part::Last => write_last(alloc, out, run),
         Part::End => Ok(Part::End),
@@ -191,11 +191,7 @@ fn write_part<'a>(
 }
 
 // Appends the lines before the first entry.
-fn write_head<'a>(
-    alloc: Global,
-    out: &mut Vec<u8>,
-    run: &Recorded<'a>,
-) -> Result<Part<'a>, AllocError>
+fn write_head<'a>(out: &mut Vec<u8>, run: &Recorded<'a>) -> Result<Part<'a>, AllocError>
     requires { IsRecorded run.now }
     ensures ok { IfOk result (λ next.
         out.new.items ++ text_left run.now next ≡ out.old.items ++ text_left run.now head) }
@@ -218,7 +214,6 @@ fn write_head<'a>(
 // Appends the lines of the entries from one on, until `out` has `limit` bytes or no entry is left. After the
 // last one stands the line before the receipts.
 fn write_entries<'a>(
-    alloc: Global,
     out: &mut Vec<u8>,
     run: &Recorded<'a>,
     next: usize,
@@ -245,7 +240,7 @@ fn write_entries<'a>(
             });
         }
         let (loaded, rest) = left.split(&entries[at]);
-        write_entry(alloc, out, run.script, &entries[at], loaded)?;
+        write_entry(out, run.script, &entries[at], loaded)?;
         left = rest;
         at += 1;
     }
@@ -275,9 +270,13 @@ fn write_receipts<'a>(
         write_line(out, b"settled")?;
         return Ok(Part::Last);
     }
-    let own = run.receipts.get(worker);
-    let at = write_seen(out, &run.script.setup.space, worker, own, next, limit)?;
-    if at < own.len() {
+    let own = OwnReceipts {
+        space: &run.script.setup.space,
+        worker,
+        receipts: run.receipts.get(worker),
+    };
+    let at = write_seen(out, &own, next, limit)?;
+    if at < own.receipts.len() {
         return Ok(Part::Receipts { worker, next: at });
     }
     Ok(Part::Receipts {

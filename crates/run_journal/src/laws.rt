@@ -35,8 +35,8 @@ pub fn journals_grow()
     ensures other { GrowsByOthers }
 {}
 
-/// The states directly after the aggregations of a journal are reached, and the rows that these report have all
-/// pages of the ranges that are watched then.
+/// The states directly after the aggregations of a journal are reached, and the rows that these report have
+/// all pages of the ranges that are watched then.
 pub fn aggregations_report_all_pages()
     ensures { EachReportsAll }
 {

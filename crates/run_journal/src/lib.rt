@@ -1,5 +1,5 @@
-//! The journal of a live run, in memory: its entries and results, the receipts of touches beside it, the monitor
-//! that carries it out, and the laws of journals.
+//! The journal of a live run, in memory: its entries and results, the receipts of touches beside it, the
+//! monitor that carries it out, and the laws of journals.
 #![tactic(auto)]
 
 /// Results that are kept as bits.
@@ -10,7 +10,7 @@ mod calls;
 mod entry;
 /// The journal.
 mod journal;
-/// What is counted of a lawful journal, and why a text is none.
+/// What is counted of a lawful journal, and why a text was not verified.
 mod lawful;
 /// Laws of the definitions.
 mod laws;
@@ -26,6 +26,7 @@ mod results;
 mod words;
 
 pub use bits::{BitList, BitPlace, BitRun, CheckResults};
+pub use calls::make_call;
 pub use entry::{CallAnswer, Entry, Receipt, Receipts};
 pub use journal::Journal;
 pub use lawful::{Lawful, VerifyFault};

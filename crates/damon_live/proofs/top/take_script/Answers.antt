@@ -3,7 +3,7 @@ use Rattle.std.proofs.lemmas.Result.{err_from_is_err_and}
 use Rattle.damon_control.specs.LiveView.{live_said}
 use Rattle.damon_control.specs.Script.{live_of}
 use Rattle.text_io.specs.declared.input.TheConstants.{INPUT_LIMIT}
-use Rattle.damon_live.proofs.Counting.{EndsAtFault-error, EndsAtFault-not}
+use Rattle.text_io.proofs.Lemmas.{EndsAtFault-error, EndsAtFault-not}
 use Rattle.damon_live.proofs.Ending.{not_read, not_spelled, too_many}
 use Rattle.damon_live.proofs.top.take_script.Goals as goal
 

@@ -9,14 +9,14 @@ use Rattle.journal_text.specs.Spelled.{call_front, call_lines}
 use Rattle.journal_text.proofs.Appended.{front_line, lines_added}
 use Rattle.journal_text.proofs.entry_lines.write_asked.Goals as goal
 
-pub returns-in_ok-write_commit-in-Commit-clause-ok : goal.returns-in_ok-write_commit-in-Commit-clause-ok
-returns-in_ok-write_commit-in-Commit-clause-ok c =
+pub returns-in_ok-write_parts-in-Commit-clause-ok : goal.returns-in_ok-write_parts-in-Commit-clause-ok
+returns-in_ok-write_parts-in-Commit-clause-ok c =
     let text = c.args.out.now.items in
     let front = call_front c.args.controller c.args.index in
     let commit = commit_value c.deref.result.now in
     let rest = written_commit commit ++ codes "apply" ∷ [] in
-    let joined : c.write_commit.new.out.items ++ lines_text (codes "apply" ∷ []) ≡ text ++ lines_text (call_lines c.args.controller c.args.index (call_value c.args.call.now)) =
-    lines_added _ _ (written_commit commit) (codes "apply" ∷ []) c.in_ok-write_commit-in-Commit.ensures.ok
+    let joined : c.write_parts.new.out.items ++ lines_text (codes "apply" ∷ []) ≡ text ++ lines_text (call_lines c.args.controller c.args.index (call_value c.args.call.now)) =
+    lines_added _ _ (written_commit commit) (codes "apply" ∷ []) c.in_ok-write_parts-in-Commit.ensures.ok
     ∙ ap (λ l. l ++ lines_text rest) c.in_ok-write_line-in-Commit.ensures.ok
     ∙ ap (λ l. (l ++ (codes "commit" ++ 10 ∷ [])) ++ lines_text rest) c.in_ok-write_front.ensures.ok
     ∙ front_line text front (codes "commit") (lines_text rest)

@@ -5,7 +5,7 @@ use Rattle.journal_text.proofs.seen_lines.group_before.Given as goal
 
 abbrev pub invariant-lines : goal.invariant-lines
 invariant-lines l = record {
-  written : drop l.start l.lines ≡ lines_text (map (spelled_seen l.space l.worker) (take (l.count - l.left) (drop (l.from + l.left) l.receipts.list)));
+  written : drop l.start l.lines ≡ lines_text (map (spelled_seen l.own.space.now l.own.worker) (take (l.count - l.left) (drop (l.from + l.left) l.own.receipts.now.list)));
   room : 87 * l.left ≤ l.start;
   within : l.start ≤ length l.lines;
   len : length l.lines ≡ length l.fn.lines;

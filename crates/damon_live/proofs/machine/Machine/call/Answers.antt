@@ -7,7 +7,7 @@ use Rattle.run_journal.specs.Phases.{IsFree, passes_open}
 use Rattle.run_journal.specs.Replay.{JournalValue, call_answer, call_at, replay}
 use Rattle.run_journal.specs.Room.{JournalView}
 use Rattle.damon_live.specs.Machine.{IsRun, calls_left, passes_made}
-use Rattle.damon_live.proofs.Between.{called_run}
+use Rattle.damon_live.proofs.Between.{call_made, called_run, free_after_call, kept_by_call}
 use Rattle.damon_live.proofs.Calling.{call_found, one_call}
 use Rattle.damon_live.proofs.Rooms.{by_entry, call_takes, one_call_less, room_left}
 use Rattle.damon_live.proofs.machine.Machine.call.Goals as goal
@@ -29,7 +29,8 @@ invariant_of-self g c =
     let same : m.core ≡ (replay v c.args.self.now).state.core = i.run.stands.same ∙ ap (λ (j : JournalValue). (replay v j).state.core) c.self.view_is in
     let free : IsFree m.core.phase = subst (λ (d : Core). IsFree d.phase) (sym same) c.requires.free in
     let left : 0 < calls_left v s.journal.value.entries = subst (λ (j : JournalValue). 0 < calls_left v j.entries) (sym c.self.view_is) c.requires.left in
-    let called = c.make_call-answer.ensures.called in
+    let told = c.make_call-answer.ensures in
+    let called = call_made call m now free told.event told.core told.ticks told.space told.cap in
     let longer = by_entry s.journal c.call-place.new.self e c.call-place.ensures.entry in
     let kept : c.call-place.new.self.checked ≡ s.journal.checked = ap (λ (j : JournalView). j.checked) c.call-place.ensures.entry in
     record {
@@ -55,7 +56,12 @@ returns-clause-answer g c =
     λ given asked. c.make_call-answer.ensures.answer ∙ (ap (λ k. call_answer k s.monitor.core) (one_call (call_at v controller index) call given is asked) ∙ ap (call_answer given) same)
 
 pub returns-clause-free : goal.returns-clause-free
-returns-clause-free g c = subst (λ (d : Core). IsFree d.phase) (invariant_of-self g c).run.stands.same c.make_call-answer.ensures.called.free
+returns-clause-free g c =
+    let v = g.N.Named.script in
+    let m = c.self.inside.monitor in
+    let same : m.core ≡ (replay v c.args.self.now).state.core = c.self.invariant.run.stands.same ∙ ap (λ (j : JournalValue). (replay v j).state.core) c.self.view_is in
+    let free : IsFree m.core.phase = subst (λ (d : Core). IsFree d.phase) (sym same) c.requires.free in
+    subst (λ (d : Core). IsFree d.phase) (sym c.make_call-answer.ensures.core ∙ (invariant_of-self g c).run.stands.same) (free_after_call (call_value c.get-call.result.now) m.core free)
 
 pub returns-clause-open : goal.returns-clause-open
 returns-clause-open g c =
@@ -63,7 +69,9 @@ returns-clause-open g c =
     let i = c.self.invariant in
     let was : passes_open c.self.inside.monitor.core.phase ≡ passes_open (replay v c.args.self.now).state.core.phase =
     ap (λ (d : Core). passes_open d.phase) i.run.stands.same ∙ ap (λ (j : JournalValue). passes_open (replay v j).state.core.phase) c.self.view_is in
-    sym (ap (λ (d : Core). passes_open d.phase) (invariant_of-self g c).run.stands.same) ∙ (c.make_call-answer.ensures.called.opened ∙ was)
+    let kept : passes_open c.make_call-answer.new.monitor.core.phase ≡ passes_open c.self.inside.monitor.core.phase =
+    ap (λ (d : Core). passes_open d.phase) c.make_call-answer.ensures.core ∙ kept_by_call (call_value c.get-call.result.now) c.self.inside.monitor.core passes_open refl in
+    sym (ap (λ (d : Core). passes_open d.phase) (invariant_of-self g c).run.stands.same) ∙ (kept ∙ was)
 
 pub returns-clause-made : goal.returns-clause-made
 returns-clause-made g c = (invariant_of-self g c).room.made ∙ (sym c.self.invariant.room.made ∙ ap passes_made c.self.view_is)

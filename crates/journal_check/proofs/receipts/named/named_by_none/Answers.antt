@@ -1,4 +1,4 @@
-use Rattle.std.proofs.Common.{◌≡◌, ◌+◌, ◌<◌, ◌==◌, ℕ, length, sym, ap, subst, ◌∙◌, arith}
+use Rattle.std.proofs.Common.{◌+◌, ◌<◌, ◌==◌, ℕ, length, sym, ap, subst, arith}
 use Rattle.run_journal.specs.declared.entry.Receipt.{Receipt}
 use Rattle.journal_check.proofs.AheadTables.{NamesBefore, told_all, told_next}
 use Rattle.journal_check.proofs.receipts.named.named_by_none.Goals as goal

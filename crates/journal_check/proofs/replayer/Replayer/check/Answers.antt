@@ -1,13 +1,11 @@
-use Rattle.std.proofs.Common.{◌≡◌, ◌+◌, ◌<◌, ◌≤◌, drop, length, take, sym, ap, ◌∙◌, subst, arith}
+use Rattle.std.proofs.Common.{◌≡◌, ◌+◌, ◌<◌, drop, length, sym, ap, ◌∙◌, subst, arith}
 use Rattle.std.proofs.lemmas.List.{length-drop, length-take-le}
 use Rattle.live_commit.specs.declared.phase.Phase.TheVariants.{Armed}
 use Rattle.region_list.specs.Regions.{RegionList}
 use Rattle.damon_core.specs.State.{row_count}
 use Rattle.damon_core.specs.Stands.{MonitorView}
-use Rattle.run_journal.specs.declared.entry.Entry.TheVariants.{Check}
 use Rattle.run_journal.specs.Bits.{place_of}
 use Rattle.journal_check.specs.Replayer.{IsOnWay, KeepsWay, ReplayerView, replayer_of}
-use Rattle.run_journal.specs.Replaying.{Carries}
 use Rattle.journal_check.proofs.OnWay.{IsNext, checks, results_are_left, takes_some}
 use Rattle.journal_check.proofs.replayer.Replayer.check.Goals as goal
 
