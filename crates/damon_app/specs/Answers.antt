@@ -2,6 +2,7 @@
 use Rattle.std.specs.Prelude.{◌≡◌, ◌≢◌, ◌⊎◌, ◌↔◌, ℕ, ◌≤◌, ◌+◌, List, length, Option, Some, None, Ok, IfSome, IsSome}
 use Rattle.std.specs.Io.KnownBytes.{Appends, Consumes, IsAtEnd}
 use Rattle.damon_types.specs.Calls.{EndsAtFault, Rose}
+use Rattle.damon_types.specs.declared.calls.Calls.{Calls}
 use Rattle.damon_control.specs.Script.{ScriptValue}
 use Rattle.damon_control.specs.Text.{IsText}
 use Rattle.damon_admin.specs.Admin.{AdminView, left_text}
@@ -30,6 +31,10 @@ use Rattle.damon_app.specs.Contexts.{Administers}
 use Rattle.damon_app.specs.Generated.{gen_text}
 use Rattle.damon_app.specs.Heating.{Heats, heat_text}
 use Rattle.damon_app.specs.Verifying.{counts_line}
+
+-- a source or a sink, by what it has left or took, and how often it was called
+abbrev pub ends_of : {A : Type 0} → (A → Option (List ℕ)) → (A → Calls) → A → Ends
+ends_of bytes calls end = record { bytes = bytes end; calls = calls end }
 
 -- the bytes of an input call for this text
 abbrev pub CallsFor : Request → List ℕ → List ℕ → Type 0

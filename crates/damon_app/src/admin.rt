@@ -6,7 +6,7 @@ ghost use Rattle.damon_types.specs.Calls.{EndsAtFault};
 ghost use Rattle.damon_admin.specs.Admin.{left_text};
 ghost use Rattle.run_status.specs.Status.{EndsRun, status_of};
 ghost use Rattle.text_io.specs.Taken.{WritesPart};
-ghost use Rattle.damon_app.specs.Answers.{AreContextsTaken, IsOutcome, IsRefused};
+ghost use Rattle.damon_app.specs.Answers.{AreContextsTaken, IsOutcome, IsRefused, ends_of};
 ghost use Rattle.damon_app.specs.Pieces.{HandsOver};
 ghost use Rattle.damon_app.specs.declared.request.Request.TheVariants.{Admin as admin};
 
@@ -24,10 +24,8 @@ pub(crate) fn run_contexts<S: Source, K: Sink>(
     sink: &mut K,
 ) -> Result<(), Status>
     ensures { IsOutcome INPUT_LIMIT admin
-        (record { bytes = S.left source.old; calls = S.calls source.old })
-        (record { bytes = S.left source.new; calls = S.calls source.new })
-        (record { bytes = K.taken sink.old; calls = K.calls sink.old })
-        (record { bytes = K.taken sink.new; calls = K.calls sink.new })
+        (ends_of S.left S.calls source.old) (ends_of S.left S.calls source.new)
+        (ends_of K.taken K.calls sink.old) (ends_of K.taken K.calls sink.new)
         (sink.new ≡ sink.old) (status_of result) }
 {
     let mut contexts = take_contexts(alloc, source)?;
@@ -38,11 +36,9 @@ pub(crate) fn run_contexts<S: Source, K: Sink>(
 // Reads a source to its end, and returns the contexts of which its bytes are the lines.
 fn take_contexts<S: Source>(alloc: Global, source: &mut S) -> Result<Admin, Status>
     ensures taken { IfOk result (AreContextsTaken INPUT_LIMIT
-        (record { bytes = S.left source.old; calls = S.calls source.old })
-        (record { bytes = S.left source.new; calls = S.calls source.new })) }
+        (ends_of S.left S.calls source.old) (ends_of S.left S.calls source.new)) }
     ensures refused { IfErr result (IsRefused INPUT_LIMIT admin
-        (record { bytes = S.left source.old; calls = S.calls source.old })
-        (record { bytes = S.left source.new; calls = S.calls source.new })) }
+        (ends_of S.left S.calls source.old) (ends_of S.left S.calls source.new)) }
 {
     let bytes = read_all(alloc, source)?;
     let contexts = Admin::of(alloc, bytes)?;

@@ -17,7 +17,7 @@ ghost use Rattle.damon_app.specs.Runs.{GeneratedRunsAreRight};
 ghost use Rattle.run_status.specs.Status.{EndsRun, IsRead, IsUnwritten, status_of};
 ghost use Rattle.journal_check.specs.Verified.{IsOfNoLawfulRun};
 ghost use Rattle.damon_app.specs.Replay.{IsBegun, IsExpected, MayCome, Reports, TellsFault, TellsJournal, TellsReport};
-ghost use Rattle.damon_app.specs.Answers.{IsAnswer, IsOutcome, IsRefused, IsScriptRefused, IsScriptTaken, IsTaken};
+ghost use Rattle.damon_app.specs.Answers.{IsAnswer, IsOutcome, IsRefused, IsScriptRefused, IsScriptTaken, IsTaken, ends_of};
 ghost use Rattle.damon_app.specs.declared.request.Request.TheVariants.{Admin as admin, Generate as generate, Verify as verify};
 ghost use Rattle.damon_app.specs.declared.request.Request.TheVariants.{Report as report_by};
 
@@ -149,10 +149,8 @@ fn serve<S: Source, K: Sink>(
     sink: &mut K,
 ) -> Status
     ensures { IsAnswer INPUT_LIMIT (asked words.now)
-        (record { bytes = S.left source.old; calls = S.calls source.old })
-        (record { bytes = S.left source.new; calls = S.calls source.new })
-        (record { bytes = K.taken sink.old; calls = K.calls sink.old })
-        (record { bytes = K.taken sink.new; calls = K.calls sink.new })
+        (ends_of S.left S.calls source.old) (ends_of S.left S.calls source.new)
+        (ends_of K.taken K.calls sink.old) (ends_of K.taken K.calls sink.new)
         (source.new ≡ source.old) (sink.new ≡ sink.old) result }
 {
     match read_request(alloc, words) {
@@ -170,10 +168,8 @@ fn fulfil<S: Source, K: Sink>(
     sink: &mut K,
 ) -> Status
     ensures { IsAnswer INPUT_LIMIT (Some request)
-        (record { bytes = S.left source.old; calls = S.calls source.old })
-        (record { bytes = S.left source.new; calls = S.calls source.new })
-        (record { bytes = K.taken sink.old; calls = K.calls sink.old })
-        (record { bytes = K.taken sink.new; calls = K.calls sink.new })
+        (ends_of S.left S.calls source.old) (ends_of S.left S.calls source.new)
+        (ends_of K.taken K.calls sink.old) (ends_of K.taken K.calls sink.new)
         (source.new ≡ source.old) (sink.new ≡ sink.old) result }
 {
     match request {
@@ -193,10 +189,8 @@ fn replay<S: Source, K: Sink>(
     sink: &mut K,
 ) -> Result<(), Status>
     ensures { IsOutcome INPUT_LIMIT (report_by run)
-        (record { bytes = S.left source.old; calls = S.calls source.old })
-        (record { bytes = S.left source.new; calls = S.calls source.new })
-        (record { bytes = K.taken sink.old; calls = K.calls sink.old })
-        (record { bytes = K.taken sink.new; calls = K.calls sink.new })
+        (ends_of S.left S.calls source.old) (ends_of S.left S.calls source.new)
+        (ends_of K.taken K.calls sink.old) (ends_of K.taken K.calls sink.new)
         (sink.new ≡ sink.old) (status_of result) }
 {
     let script = take_script(alloc, source)?;
@@ -208,12 +202,10 @@ fn replay<S: Source, K: Sink>(
 // of this function: the run needs only the script, and does not keep the memory of both.
 fn take_script<S: Source>(alloc: Global, source: &mut S) -> Result<Script, Status>
     ensures taken { IfOk result (λ script. IsScriptTaken INPUT_LIMIT
-        (record { bytes = S.left source.old; calls = S.calls source.old })
-        (record { bytes = S.left source.new; calls = S.calls source.new })
+        (ends_of S.left S.calls source.old) (ends_of S.left S.calls source.new)
         (said_by script)) }
     ensures refused { IfErr result (IsScriptRefused INPUT_LIMIT
-        (record { bytes = S.left source.old; calls = S.calls source.old })
-        (record { bytes = S.left source.new; calls = S.calls source.new })) }
+        (ends_of S.left S.calls source.old) (ends_of S.left S.calls source.new)) }
 
     // What the player of a script needs.
     ensures within { IfOk result (λ script.
@@ -235,10 +227,8 @@ fn check_journal<S: Source, K: Sink>(
     sink: &mut K,
 ) -> Result<(), Status>
     ensures { IsOutcome INPUT_LIMIT verify
-        (record { bytes = S.left source.old; calls = S.calls source.old })
-        (record { bytes = S.left source.new; calls = S.calls source.new })
-        (record { bytes = K.taken sink.old; calls = K.calls sink.old })
-        (record { bytes = K.taken sink.new; calls = K.calls sink.new })
+        (ends_of S.left S.calls source.old) (ends_of S.left S.calls source.new)
+        (ends_of K.taken K.calls sink.old) (ends_of K.taken K.calls sink.new)
         (sink.new ≡ sink.old) (status_of result) }
 {
     let line = take_journal(alloc, source)?;
@@ -249,12 +239,10 @@ fn check_journal<S: Source, K: Sink>(
 // Reads a source to its end, and returns the line of the lawful journal of which its bytes are the text.
 fn take_journal<S: Source>(alloc: Global, source: &mut S) -> Result<Vec<u8>, Status>
     ensures taken { IfOk result (λ line. IsTaken INPUT_LIMIT verify
-        (record { bytes = S.left source.old; calls = S.calls source.old })
-        (record { bytes = S.left source.new; calls = S.calls source.new })
+        (ends_of S.left S.calls source.old) (ends_of S.left S.calls source.new)
         line.items) }
     ensures refused { IfErr result (IsRefused INPUT_LIMIT verify
-        (record { bytes = S.left source.old; calls = S.calls source.old })
-        (record { bytes = S.left source.new; calls = S.calls source.new })) }
+        (ends_of S.left S.calls source.old) (ends_of S.left S.calls source.new)) }
 {
     let bytes = read_all(alloc, source)?;
     let counts = verify(alloc, &bytes)?;
