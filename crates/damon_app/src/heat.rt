@@ -1,5 +1,5 @@
 // The heat tables of a journal.
-ghost use Rattle.std.specs.Prelude.{◌≡◌, ℕ, ◌≤◌, ◌<◌, ◌++◌, ◌∷◌, [], List, Ok, true, false, flat_map, IfErr, IfOk, IsErrOf, OnErr, OnOk};
+ghost use Rattle.std.specs.Prelude.{◌≡◌, ◌≤◌, ◌<◌, ◌++◌, ◌∷◌, [], List, Ok, true, false, flat_map, IfErr, IfOk, IsErrOf, OnErr, OnOk};
 ghost use Rattle.std.specs.Io.KnownBytes.{Appends};
 ghost use Rattle.damon_types.specs.Calls.{EndsAtFault};
 ghost use Rattle.damon_types.specs.RowPages.{working_set};
@@ -35,8 +35,6 @@ pub(crate) fn show_heat<S: Source, K: Sink>(
         (ends_of K.taken K.calls sink.old) (ends_of K.taken K.calls sink.new)
         (sink.new ≡ sink.old) (status_of result) }
 {
-    // For its clause alone: the numbers of the tables add up.
-    heat_tables_add_up();
     let mut replayer = take_run(alloc, source)?;
     write_tables_in(alloc, columns, &mut replayer, sink)?;
     Ok(())
@@ -49,6 +47,8 @@ fn take_run<S: Source>(alloc: Global, source: &mut S) -> Result<Replayer, Status
     ensures refused { IfErr result (IsRunRefused INPUT_LIMIT
         (ends_of S.left S.calls source.old) (ends_of S.left S.calls source.new)) }
 {
+    // For its clause alone: the numbers of the tables add up.
+    heat_tables_add_up();
     let bytes = read_all(alloc, source)?;
     let replayer = Replayer::new(alloc, &bytes)?;
     Ok(replayer)

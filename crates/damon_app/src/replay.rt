@@ -10,13 +10,12 @@ ghost use Rattle.text_io.specs.Taken.{WritesPart};
 ghost use Rattle.script_run.specs.TextReport.{text_report};
 ghost use Rattle.damon_admin.specs.Laws.{ContextsAreApart, ContextsAreBound, VoicesAreReports};
 ghost use Rattle.damon_app.specs.Request.{AskToReplay, ReadsInput, ReadsJournal, asked};
-ghost use Rattle.damon_app.specs.Contexts.{Administers};
 ghost use Rattle.damon_app.specs.Generated.{gen_text};
 ghost use Rattle.damon_app.specs.Runs.{EachRunChoosesBest, EachRunFollowsGoals, EachRunIsAccounted, EachRunIsBound};
 ghost use Rattle.damon_app.specs.Runs.{GeneratedRunsAreRight};
 ghost use Rattle.run_status.specs.Status.{EndsRun, IsRead, IsUnwritten, status_of};
 ghost use Rattle.journal_check.specs.Verified.{IsOfNoLawfulRun};
-ghost use Rattle.damon_app.specs.Replay.{IsBegun, IsExpected, MayCome, Reports, TellsFault, TellsJournal, TellsReport};
+ghost use Rattle.damon_app.specs.Replay.{IsBegun, IsExpected, MayCome, Reports, TellsFault, Wrote};
 ghost use Rattle.damon_app.specs.Answers.{IsAnswer, IsOutcome, IsRefused, IsScriptRefused, IsScriptTaken, IsTaken, ends_of};
 ghost use Rattle.damon_app.specs.declared.request.Request.TheVariants.{Admin as admin, Generate as generate, Verify as verify};
 ghost use Rattle.damon_app.specs.declared.request.Request.TheVariants.{Report as report_by};
@@ -62,12 +61,14 @@ pub fn replay_main<S: Source, K: Sink>(
     // It is what the words ask for, whatever they are: the report of a script in its form, over a model of
     // resident pages or with quotas that follow goals, the line of the lawful journal whose text was read,
     // its heat tables, whose numbers add up, the output of contexts, or the line of the generated script.
-    ensures report { result ≡ Status.Ok → IfSome (S.left source.old)
-        (λ bytes. TellsReport (asked words.now) bytes (K.taken sink.old) (K.taken sink.new)) }
-    ensures lawful { result ≡ Status.Ok → ReadsJournal (asked words.now) → IfSome (S.left source.old)
-        (λ bytes. TellsJournal (asked words.now) bytes (K.taken sink.old) (K.taken sink.new)) }
+    ensures report { (run : Run) → result ≡ Status.Ok → asked words.now ≡ Some (report_by run) →
+        IfSome (S.left source.old)
+        (λ bytes. Wrote (report_by run) bytes (K.taken sink.old) (K.taken sink.new)) }
+    ensures lawful { (request : Request) → result ≡ Status.Ok → asked words.now ≡ Some request →
+        ReadsJournal (Some request) → IfSome (S.left source.old)
+        (λ bytes. Wrote request bytes (K.taken sink.old) (K.taken sink.new)) }
     ensures output { result ≡ Status.Ok → asked words.now ≡ Some admin → IfSome (S.left source.old)
-        (λ bytes. Administers bytes (K.taken sink.old) (K.taken sink.new)) }
+        (λ bytes. Wrote admin bytes (K.taken sink.old) (K.taken sink.new)) }
     ensures summary { (n : ℕ) → result ≡ Status.Ok → asked words.now ≡ Some (generate n) →
         Appends (K.taken sink.old) (K.taken sink.new) (gen_text n) }
     ensures end { ReadsInput (asked words.now) → IsRead result → IsAtEnd (S.left source.new) }

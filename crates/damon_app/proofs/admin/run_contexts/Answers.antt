@@ -38,4 +38,3 @@ returns g c =
     (ends_of g.K.Sink.taken g.K.Sink.calls c.args.sink.now)
     (ends_of g.K.Sink.taken g.K.Sink.calls c.write_output.new.sink)
     (c.write_output.new.sink ≡ c.args.sink.now) (left_text c.in_ok-contexts.contexts) c.in_ok-contexts.ensures.taken (EndsAtFault-not (λ e. cc e) (λ no. no) c.in_ok-write_output.ensures.writes) c.in_ok-write_output.ensures.all
-    (left_text c.in_ok-contexts.contexts, c.in_ok-contexts.ensures.taken.wanted, c.in_ok-write_output.ensures.all)

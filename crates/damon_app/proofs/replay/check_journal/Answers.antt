@@ -27,8 +27,8 @@ returns-in_err-write_all g c =
     rw (p.1, p.2) (not_written INPUT_LIMIT Verify
     (ends_of g.S.Source.left g.S.Source.calls c.args.source.now)
     (ends_of g.S.Source.left g.S.Source.calls c.take_journal.new.source)
-    (record { bytes = taken c.args.sink.now; calls = g.K.Sink.calls c.args.sink.now })
-    (record { bytes = taken c.write_all.new.sink; calls = g.K.Sink.calls c.write_all.new.sink })
+    (ends_of taken g.K.Sink.calls c.args.sink.now)
+    (ends_of taken g.K.Sink.calls c.write_all.new.sink)
     (c.write_all.new.sink ≡ c.args.sink.now) c.in_ok-line.line.items c.in_ok-line.ensures.taken WriteFault tt
     (EndsAtFault-as (λ e. refl) (λ e. refl) c.in_err-write_all.ensures.writes)
     (subst (WritesPart (taken c.args.sink.now) (taken c.write_all.new.sink)) c.deref.ensures.value c.in_err-write_all.ensures.part))
@@ -36,11 +36,11 @@ returns-in_err-write_all g c =
 pub returns : goal.returns
 returns g c =
     let taken = g.K.Sink.taken in
-    let line = subst (Appends (taken c.args.sink.now) (taken c.write_all.new.sink)) c.deref.ensures.value c.in_ok-write_all.ensures.all in
     written INPUT_LIMIT Verify
     (ends_of g.S.Source.left g.S.Source.calls c.args.source.now)
     (ends_of g.S.Source.left g.S.Source.calls c.take_journal.new.source)
-    (record { bytes = taken c.args.sink.now; calls = g.K.Sink.calls c.args.sink.now })
-    (record { bytes = taken c.write_all.new.sink; calls = g.K.Sink.calls c.write_all.new.sink })
+    (ends_of taken g.K.Sink.calls c.args.sink.now)
+    (ends_of taken g.K.Sink.calls c.write_all.new.sink)
     (c.write_all.new.sink ≡ c.args.sink.now) c.in_ok-line.line.items c.in_ok-line.ensures.taken
-    (EndsAtFault-not (λ e. cc e) (λ no. no) c.in_ok-write_all.ensures.writes) line (c.in_ok-line.line.items, c.in_ok-line.ensures.taken.wanted, line)
+    (EndsAtFault-not (λ e. cc e) (λ no. no) c.in_ok-write_all.ensures.writes)
+    (subst (Appends (taken c.args.sink.now) (taken c.write_all.new.sink)) c.deref.ensures.value c.in_ok-write_all.ensures.all)

@@ -39,4 +39,3 @@ returns g c =
     (ends_of g.K.Sink.taken g.K.Sink.calls c.args.sink.now)
     (ends_of g.K.Sink.taken g.K.Sink.calls c.write_report.new.sink)
     (c.write_report.new.sink ≡ c.args.sink.now) (report_of c.args.run (said_by c.in_ok-script.script)) (c.in_ok-script.ensures.taken c.args.run) (EndsAtFault-not (λ e. cc e) (λ no. no) c.in_ok-write_report.ensures.writes) c.in_ok-write_report.ensures.all
-    (report_of c.args.run (said_by c.in_ok-script.script), (c.in_ok-script.ensures.taken c.args.run).wanted, c.in_ok-write_report.ensures.all)
