@@ -1,11 +1,9 @@
--- What several calls of a source or a sink come to.
-use Rattle.std.proofs.Common.{◌≡◌, ℕ, ◌+◌, List, [], ◌++◌, length, take, drop, Option, true, false, refl, sym, ap, ◌∙◌, subst, append_assoc, take-append-drop, length-append, arith}
+-- What a sink took in several calls.
+use Rattle.std.proofs.Common.{◌≡◌, ℕ, ◌+◌, List, [], ◌++◌, length, take, drop, Option, sym, ap, ◌∙◌, subst, append_assoc, take-append-drop, length-append, arith}
 use Rattle.std.specs.Io.KnownBytes.{Appends, Keeps}
 use Rattle.std.proofs.KnownBytes.{Appends-nil, Appends-trans, Appends-kept}
 use Rattle.std.proofs.Math.Seq.{take-append-add}
 use Rattle.std.proofs.lemmas.List.{take-append-le}
-use Rattle.damon_types.specs.Calls.{EndsAtFault, after_call, next_count}
-use Rattle.damon_types.specs.declared.calls.Calls.{Calls}
 use Rattle.text_io.specs.Taken.{WritesPart}
 
 -- ---- parts of a text
@@ -39,43 +37,3 @@ Written-then a b c text rest last (front, first, is) (front', second, is') =
 -- the sink took a part of what was left
 pub Written-part : (a b c : Option (List ℕ)) (text rest : List ℕ) → Written a text b rest → WritesPart b c rest → WritesPart a c text
 Written-part a b c text rest (front, first, is) second = subst (WritesPart a c) (sym is) (WritesPart-after a b c front rest first second)
-
--- ---- how often it was called
-
--- no call was made
-pub EndsAtFault-none : (c : Calls) → EndsAtFault ⊥ c c
-EndsAtFault-none c = record { one = λ no. absurd no; none = λ _. refl; late = λ _. refl }
-
--- the same, where the failure has another name
-pub EndsAtFault-as : {P Q : Type 0} {a b : Calls} → (Q → P) → (P → Q) → EndsAtFault P a b → EndsAtFault Q a b
-EndsAtFault-as here there ends = record {
-  one = λ q. ends.one (here q);
-  none = λ not. ends.none (λ p. not (there p));
-  late = ends.late;
-}
-
--- calls of which none failed, and then more
-pub EndsAtFault-then : {P : Type 0} {a b c : Calls} → EndsAtFault ⊥ a b → EndsAtFault P b c → EndsAtFault P a c
-EndsAtFault-then first second =
-    let same = first.none (λ no. no) in
-    record {
-      one = λ p. second.one p ∙ ap next_count same;
-      none = λ not. second.none not ∙ same;
-      late = λ zero. second.late (same ∙ zero) ∙ first.late zero;
-    }
-
--- a call that did not fail
-pub EndsAtFault-went : {a b : Calls} → b ≡ after_call false a → EndsAtFault ⊥ a b
-EndsAtFault-went {a} {b} is = record {
-  one = λ no. absurd no;
-  none = λ _. ap (λ (c : Calls). c.failed) is;
-  late = λ zero. ap (λ (c : Calls). c.late) is ∙ rw zero refl;
-}
-
--- a call that failed
-pub EndsAtFault-failed : {P : Type 0} {a b : Calls} → P → b ≡ after_call true a → EndsAtFault P a b
-EndsAtFault-failed {P} {a} {b} p is = record {
-  one = λ _. ap (λ (c : Calls). c.failed) is;
-  none = λ not. absurd (not p);
-  late = λ zero. ap (λ (c : Calls). c.late) is ∙ rw zero refl;
-}

@@ -1,6 +1,7 @@
 use Rattle.std.proofs.Common.{◌<◌, length, ap, sym, subst, arith, rules, length-append}
 use Rattle.text_io.specs.Taken.{WritesPart}
-use Rattle.text_io.proofs.Known.{EndsAtFault-as, EndsAtFault-then, WritesPart-longer, Written-part, Written-then, parts_joined}
+use Rattle.text_io.proofs.Counting.{EndsAtFault-as, EndsAtFault-then}
+use Rattle.text_io.proofs.Known.{WritesPart-longer, Written-part, Written-then, parts_joined}
 use Rattle.text_io.proofs.output.write_all.Goals as goal
 
 pub returns-in_err-write_piece-clause-part : goal.returns-in_err-write_piece-clause-part
@@ -21,5 +22,5 @@ pieces-preserved g c =
     record {
       written = Written-then _ (taken c.pieces.sink) _ _ rest _ c.pieces.invariant.written (c.split_at.result.0.now, c.in_ok-write_piece.ensures.all, joined);
       unused = λ none. absurd (omega (arith, some, ap length none, ap length c.pieces.invariant.written.2, length-append c.pieces.invariant.written.0 rest));
-      quiet = EndsAtFault-then c.pieces.invariant.quiet (EndsAtFault-as (λ no. absurd no) (λ e. absurd (cc e)) c.in_ok-write_piece.ensures.writes);
+      quiet = EndsAtFault-then (λ no. no) c.pieces.invariant.quiet (EndsAtFault-as (λ no. absurd no) (λ e. absurd (cc e)) c.in_ok-write_piece.ensures.writes);
     }

@@ -1,5 +1,6 @@
 use Rattle.std.proofs.Common.{take, refl}
-use Rattle.text_io.proofs.Known.{EndsAtFault-then, EndsAtFault-went, WritesPart-kept, Written-part, Written-then, parts_joined}
+use Rattle.text_io.proofs.Counting.{EndsAtFault-then, EndsAtFault-went}
+use Rattle.text_io.proofs.Known.{WritesPart-kept, Written-part, Written-then, parts_joined}
 use Rattle.text_io.proofs.output.write_piece.Goals as goal
 
 pub returns-in_err-count-clause-part : goal.returns-in_err-count-clause-part
@@ -14,5 +15,5 @@ writes-preserved g c =
     let front = take c.in_ok-count.count rest in
     record {
       written = Written-then _ (taken c.writes.sink) _ _ rest _ c.writes.invariant.written (front, c.in_ok-count.ensures.bytes, parts_joined c.in_ok-count.count rest front _ refl c.split_at.ensures.back);
-      quiet = EndsAtFault-then c.writes.invariant.quiet (EndsAtFault-went c.in_ok-count.ensures.counted);
+      quiet = EndsAtFault-then (λ no. no) c.writes.invariant.quiet (EndsAtFault-went c.in_ok-count.ensures.counted);
     }

@@ -1,9 +1,8 @@
-use Rattle.std.proofs.Common.{◌≡◌, [], Ok, ap, subst, refl}
+use Rattle.std.proofs.Common.{Ok, ap, subst, refl}
 use Rattle.std.specs.Io.KnownBytes.{Appends}
 use Rattle.std.proofs.lemmas.Result.{err_from_is_err_and}
-use Rattle.damon_types.specs.Calls.{EndsAtFault}
 use Rattle.text_io.specs.Taken.{WritesPart}
-use Rattle.text_io.proofs.Known.{EndsAtFault-as, EndsAtFault-then}
+use Rattle.text_io.proofs.Counting.{EndsAtFault-as, EndsAtFault-then}
 use Rattle.text_io.proofs.Pumping.{last_piece, no_fault_of_memory, part_left, part_more, piece_more}
 use Rattle.text_io.proofs.source.pump.Goals as goal
 
@@ -28,7 +27,7 @@ pieces-preserved g c =
           (c.in_ok-filled.ensures.on (ap (λ f. Ok f) c.in-Piece.is))
           (subst (Appends (taken c.pieces.sink) (taken c.write_all.new.sink)) c.deref.ensures.value c.in_ok-write_all.ensures.all);
       empty = c.clear.ensures.items;
-      quiet = EndsAtFault-then c.pieces.invariant.quiet (EndsAtFault-as (λ no. absurd no) (λ e. absurd (cc e)) c.in_ok-write_all.ensures.writes);
+      quiet = EndsAtFault-then (λ no. no) c.pieces.invariant.quiet (EndsAtFault-as (λ no. absurd no) (λ e. absurd (cc e)) c.in_ok-write_all.ensures.writes);
     }
 
 pub returns-in-End-clause-all : goal.returns-in-End-clause-all
@@ -54,8 +53,8 @@ returns-in_err-filled-clause-writes g c =
 pub returns-in_err-write_all-clause-writes : goal.returns-in_err-write_all-clause-writes
 returns-in_err-write_all-clause-writes g c =
     let p = err_from_is_err_and c.from_residual-in_err-write_all.result c.from_residual-in_err-write_all.ensures.1 in
-    rw (p.1, p.2) (EndsAtFault-then c.pieces.invariant.quiet (EndsAtFault-as (λ e. refl) (λ e. refl) c.in_err-write_all.ensures.writes))
+    rw (p.1, p.2) (EndsAtFault-then (λ no. no) c.pieces.invariant.quiet (EndsAtFault-as (λ e. refl) (λ e. refl) c.in_err-write_all.ensures.writes))
 
 pub returns-in-End-clause-writes : goal.returns-in-End-clause-writes
 returns-in-End-clause-writes g c =
-    EndsAtFault-then c.pieces.invariant.quiet (EndsAtFault-as (λ e. cc e) (λ e. cc e) c.in_ok-write_all.ensures.writes)
+    EndsAtFault-then (λ no. no) c.pieces.invariant.quiet (EndsAtFault-as (λ e. cc e) (λ e. cc e) c.in_ok-write_all.ensures.writes)

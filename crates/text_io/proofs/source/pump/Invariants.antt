@@ -1,5 +1,4 @@
-use Rattle.std.proofs.Common.{◌≡◌, ◌++◌, List, ℕ, []}
-use Rattle.std.specs.Io.KnownBytes.{Appends}
+use Rattle.std.proofs.Common.{◌≡◌, []}
 use Rattle.damon_types.specs.Calls.{EndsAtFault}
 use Rattle.text_io.proofs.Pumping.{IsLeft}
 use Rattle.text_io.proofs.source.pump.Given as goal
