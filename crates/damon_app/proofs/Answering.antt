@@ -20,7 +20,7 @@ use Rattle.text_io.specs.Ends.{Ends}
 use Rattle.damon_app.specs.Replay.{MayCome, MayWrite, Wrote}
 use Rattle.damon_app.specs.StatusOf.{status_of_input, status_of_text}
 use Rattle.damon_app.specs.Answers.{IsOutcome, IsRefusal, IsTaken, RefusesAs}
-use Rattle.damon_app.proofs.Counting.{EndsAtFault-as, EndsAtFault-not, EndsAtFault-rose}
+use Rattle.text_io.proofs.Lemmas.{EndsAtFault-as, EndsAtFault-not, EndsAtFault-rose}
 use Rattle.damon_app.proofs.Known.{GaveUpTo-not_over, WritesPart-whole}
 use Rattle.damon_app.proofs.Statuses.{had_over, status_of_input-long, status_of_input-short, text_comes}
 

@@ -24,7 +24,7 @@ use Rattle.std.proofs.KnownBytes.{Appends-nil}
 use Rattle.damon_app.proofs.Answering.{untold}
 use Rattle.damon_app.specs.Answers.{IsAnswer, IsOutcome, IsRefusal, RefusesAs}
 use Rattle.damon_app.proofs.Statuses.{journal_line, spelled_fault}
-use Rattle.damon_app.proofs.Counting.{EndsAtFault-error, EndsAtFault-none, EndsAtFault-not, EndsAtFault-rose}
+use Rattle.text_io.proofs.Lemmas.{EndsAtFault-error, EndsAtFault-none, EndsAtFault-not, EndsAtFault-rose}
 use Rattle.damon_app.proofs.Known.{GaveUpTo-none, GaveUpTo-not_over}
 
 -- a source that was left alone gave nothing

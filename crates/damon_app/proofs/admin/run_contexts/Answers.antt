@@ -6,7 +6,7 @@ use Rattle.damon_admin.specs.Admin.{left_text}
 use Rattle.damon_app.specs.Answers.{ends_of}
 use Rattle.damon_app.specs.declared.request.Request.TheVariants.{Admin}
 use Rattle.damon_app.proofs.Answering.{left_alone, not_written, written}
-use Rattle.damon_app.proofs.Counting.{EndsAtFault-error, EndsAtFault-not}
+use Rattle.text_io.proofs.Lemmas.{EndsAtFault-error, EndsAtFault-not}
 use Rattle.damon_app.proofs.admin.run_contexts.Goals as goal
 
 pub returns-in_err-contexts : goal.returns-in_err-contexts

@@ -8,7 +8,7 @@ use Rattle.damon_app.specs.Answers.{ends_of}
 use Rattle.damon_app.specs.declared.request.Request.TheVariants.{Admin}
 use Rattle.damon_app.specs.StatusOf.{status_of_spelled}
 use Rattle.damon_app.proofs.Answering.{not_read, not_spelled}
-use Rattle.damon_app.proofs.Counting.{EndsAtFault-error, EndsAtFault-none, EndsAtFault-not}
+use Rattle.text_io.proofs.Lemmas.{EndsAtFault-error, EndsAtFault-none, EndsAtFault-not}
 use Rattle.damon_app.proofs.admin.take_contexts.Goals as goal
 
 pub returns-in_err-bytes-clause-refused : goal.returns-in_err-bytes-clause-refused

@@ -8,7 +8,7 @@ use Rattle.damon_app.specs.Answers.{ends_of}
 use Rattle.damon_app.specs.declared.request.Request.TheVariants.{Heat}
 use Rattle.damon_app.specs.Heating.{heat_text}
 use Rattle.damon_app.proofs.Answering.{left_alone, not_written, written}
-use Rattle.damon_app.proofs.Counting.{EndsAtFault-error, EndsAtFault-not}
+use Rattle.text_io.proofs.Lemmas.{EndsAtFault-error, EndsAtFault-not}
 use Rattle.damon_app.proofs.heat.show_heat.Goals as goal
 
 pub returns-in_err-replayer : goal.returns-in_err-replayer

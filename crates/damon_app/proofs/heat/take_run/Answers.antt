@@ -11,7 +11,7 @@ use Rattle.damon_app.specs.declared.request.Columns.TheVariants.{Eight, Sixteen,
 use Rattle.damon_app.specs.declared.request.Request.TheVariants.{Heat}
 use Rattle.damon_app.specs.StatusOf.{status_of_journal}
 use Rattle.damon_app.proofs.Answering.{not_read, not_verified}
-use Rattle.damon_app.proofs.Counting.{EndsAtFault-error, EndsAtFault-none, EndsAtFault-not}
+use Rattle.text_io.proofs.Lemmas.{EndsAtFault-error, EndsAtFault-none, EndsAtFault-not}
 use Rattle.damon_app.proofs.heat.take_run.Goals as goal
 
 pub returns-in_err-bytes-clause-refused : goal.returns-in_err-bytes-clause-refused

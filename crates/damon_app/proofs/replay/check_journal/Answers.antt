@@ -8,7 +8,7 @@ use Rattle.damon_app.specs.Answers.{ends_of}
 use Rattle.damon_app.specs.declared.request.Request.TheVariants.{Verify}
 use Rattle.run_status.specs.declared.status.Status.TheVariants.{WriteFault}
 use Rattle.damon_app.proofs.Answering.{left_alone, not_written, written}
-use Rattle.damon_app.proofs.Counting.{EndsAtFault-as, EndsAtFault-not}
+use Rattle.text_io.proofs.Lemmas.{EndsAtFault-as, EndsAtFault-not}
 use Rattle.damon_app.proofs.replay.check_journal.Goals as goal
 
 pub returns-in_err-line : goal.returns-in_err-line

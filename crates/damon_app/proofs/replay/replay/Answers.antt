@@ -7,7 +7,7 @@ use Rattle.text_io.specs.Ends.{Ends}
 use Rattle.text_io.specs.declared.input.TheConstants.{INPUT_LIMIT}
 use Rattle.damon_app.specs.declared.request.Request.TheVariants.{Report}
 use Rattle.damon_app.proofs.Answering.{left_alone, not_written, written}
-use Rattle.damon_app.proofs.Counting.{EndsAtFault-error, EndsAtFault-not}
+use Rattle.text_io.proofs.Lemmas.{EndsAtFault-error, EndsAtFault-not}
 use Rattle.damon_app.proofs.replay.replay.Goals as goal
 
 pub returns-in_err-script : goal.returns-in_err-script
