@@ -13,5 +13,4 @@ pub mod Bounded
 pub mod Going
 pub mod Gathering
 pub mod LineDone
-pub mod Lemmas
 mod Examples

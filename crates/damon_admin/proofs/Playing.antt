@@ -23,9 +23,9 @@ use Rattle.script_run.proofs.Lemmas.{played-next, played-report, played-text}
 use Rattle.script_run.specs.Player.{AnyState, PlayerView, WritesLast}
 use Rattle.damon_admin.specs.declared.stage.Stage.{Stage}
 use Rattle.damon_admin.specs.declared.stage.Stage.TheVariants as stage
-use Rattle.damon_admin.specs.Kept.{IsNext, IsRunning, MayPlay, Plays, gained}
+use Rattle.damon_admin.specs.Kept.{IsNext, IsRunning, MayPlay, Plays}
 use Rattle.damon_admin.specs.Stage.{completes, stage_after, stage_of}
-use Rattle.damon_admin.specs.Written.{commands_at, fault_line, place_from, place_of, written, written_as, written_at, written_where}
+use Rattle.damon_admin.specs.Written.{commands_at, fault_line, gained, place_from, place_of, written, written_as, written_at, written_where}
 use Rattle.damon_admin.proofs.Places.{NextPlace, end_is_last, first_commands, next_place}
 use Rattle.damon_admin.proofs.Steps.{IsSaid}
 

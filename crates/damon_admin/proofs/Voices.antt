@@ -25,14 +25,14 @@ use Rattle.script_run.specs.Unfold.{command_events, start, unfold_script}
 use Rattle.script_run.proofs.Lemmas.{commands_events-more}
 use Rattle.script_run.specs.Played.{commands_text, up_to}
 use Rattle.snapshot_print.specs.Printed.{printed_state}
-use Rattle.damon_admin.specs.Kept.{IsNext, gained}
+use Rattle.damon_admin.specs.Kept.{IsNext}
 use Rattle.damon_admin.specs.Laws.{ContextsAreApart, VoicesAreReports}
 use Rattle.damon_admin.specs.Lines.{ContextLine, lines_of}
 use Rattle.damon_admin.specs.declared.stage.Stage.{Stage}
 use Rattle.damon_admin.specs.declared.stage.Stage.TheVariants as stage
 use Rattle.damon_admin.specs.Stage.{completes, stage_of}
 use Rattle.damon_admin.specs.Voice.{all_but_last, is_of, lines_in, spoken, spoken_line, voice}
-use Rattle.damon_admin.specs.Written.{all_written, commands_at, fault_line, line_text, output_of, place_from, place_of, texts_from, told, written, written_as, written_at, written_where}
+use Rattle.damon_admin.specs.Written.{all_written, commands_at, fault_line, gained, line_text, output_of, place_from, place_of, texts_from, told, written, written_as, written_at, written_where}
 use Rattle.damon_admin.proofs.Contexts.{lines_of-append, lines_of-own, lines_text-append, other_more, own_more, pieces_of}
 use Rattle.damon_admin.proofs.Ended.{IsEnded, line_ended, lines_text-lines_in, none_ended, some_parts}
 use Rattle.damon_admin.proofs.Places.{NextPlace, end_is_last, next_place, parts_first, place_from-append, script_leads}
@@ -323,8 +323,11 @@ whole_voice (line ∷ lines) said pieces is =
 pub voices : PutsPartsTogether → VoicesAreReports
 voices together input lines said c within =
     let pieces = pieces_of together input lines said in
-    whole_voice (lines_of c lines) (voice c (output_of lines)) (pieces c) (telling together lines pieces c [] lines refl)
+    record {
+      whole = whole_voice (lines_of c lines) (voice c (output_of lines)) (pieces c) (telling together lines pieces c [] lines refl);
+      adds = λ done left line is. (gains (lines_of c lines) done line (record { later = left; all = is; pieces = pieces c })).0;
+    }
 
 pub apart : VoicesAreReports → ContextsAreApart
 apart voices input other lines others said too c within same =
-    voices input lines said c within ∙ ap all_written same ∙ sym (voices other others too c within)
+    (voices input lines said c within).whole ∙ ap all_written same ∙ sym (voices other others too c within).whole

@@ -27,7 +27,7 @@ use Rattle.damon_admin.specs.declared.stage.Stage.TheVariants.{Setup, Body, Comm
 use Rattle.damon_admin.specs.Admin.{AdminView}
 use Rattle.damon_admin.specs.Lines.{ContextLine, context_text, lines_of, lines_said, split_from}
 use Rattle.damon_admin.specs.Stage.{stage_of}
-use Rattle.damon_admin.specs.Written.{commands_at, place_of, written}
+use Rattle.damon_admin.specs.Written.{commands_at, gained, place_of}
 
 -- ---- lines
 
@@ -102,10 +102,6 @@ pub record IsNext (own done : List (List ℕ)) (line : List ℕ) : Type 0 where
   pub later : List (List ℕ)
   pub all : own ≡ done ++ (line ∷ later)
   pub pieces : All (IsPiece 10) own
-
--- what a context gains with a line
-abbrev pub gained : (own done : List (List ℕ)) → List ℕ → List ℕ
-gained own done line = drop (length (written own done)) (written own (done ++ line ∷ []))
 
 -- the line may be the next of a context
 abbrev pub MayGoOn : List ℕ → Context → Type 0

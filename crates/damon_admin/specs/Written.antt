@@ -67,13 +67,14 @@ written_as own done (Err fault) = if length done == length own then fault_line f
 abbrev pub written : (own done : List (List ℕ)) → List ℕ
 written own done = written_as own done (script_of (lines_text own))
 
--- What a line of the input writes, where `done` are the lines before it and `all` are all: what its context has written after it
--- and not before, as the context says it.
+-- what a context gains with a line: what it has written after the line, without what it had written before
+abbrev pub gained : (own done : List (List ℕ)) → List ℕ → List ℕ
+gained own done line = drop (length (written own done)) (written own (done ++ line ∷ []))
+
+-- What a line of the input writes, where `done` are the lines before it and `all` are all: what its context gains, as the context
+-- says it.
 abbrev pub line_text : (all done : List ContextLine) → ContextLine → List ℕ
-line_text all done l =
-    let own = lines_of l.context all in
-    let before = lines_of l.context done in
-    spoken l.context (drop (length (written own before)) (written own (before ++ l.line ∷ [])))
+line_text all done l = spoken l.context (gained (lines_of l.context all) (lines_of l.context done) l.line)
 
 -- what the lines that are left write, one after another, after the lines before them
 abbrev pub texts_from : (all done left : List ContextLine) → List ℕ

@@ -13,6 +13,7 @@ use line_text::parts_are_pieces;
 use script_run::each_script_is_bound;
 use std::alloc::{AllocError, Global};
 use std::marker::Model;
+use text_io::{Filled, PIECE, TextSource};
 
 /// Why no contexts were made of an input: its first line that is refused, or that memory ran out.
 pub type AdminFail = ReadFail;
@@ -158,5 +159,24 @@ impl Admin {
         scripts_are_sound();
         each_script_is_bound();
         self.contexts[context as usize].monitor()
+    }
+}
+
+// What the lines that are left write.
+impl TextSource for Admin {
+    ghost use Rattle.std.specs.Prelude.{◌≡◌, length};
+    ghost use Rattle.damon_admin.specs.Admin.{left_text};
+
+    ghost left = { λ a text. left_text a ≡ text };
+
+    ghost steps = { λ a. length a.left };
+
+    fn fill(&mut self, alloc: Global, out: &mut Vec<u8>) -> Result<Filled, AllocError> {
+        'lines: while out.len() < PIECE {
+            if !self.next(alloc, out)? {
+                return Ok(Filled::End);
+            }
+        }
+        Ok(Filled::Piece)
     }
 }

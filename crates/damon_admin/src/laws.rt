@@ -2,7 +2,7 @@
 ghost use Rattle.damon_admin.specs.Laws.{ContextsAreApart, ContextsAreBound, VoicesAreReports};
 
 /// In the output of each input the lines of a context, without its digit and the space, are the report of
-/// the script that its lines spell, or the line of their fault.
+/// the script that its lines spell, or the line of their fault; and each of its lines only adds to that.
 pub fn voices_are_reports()
     ensures voices { VoicesAreReports }
 {

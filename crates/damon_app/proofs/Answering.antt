@@ -17,10 +17,10 @@ use Rattle.text_io.specs.Given.{GaveOver, GaveUpTo}
 use Rattle.text_io.specs.Taken.{WritesPart}
 use Rattle.run_status.specs.Status.{EndsRun, IsFailure, input_status, read_status, verify_status}
 use Rattle.text_io.specs.Ends.{Ends}
-use Rattle.damon_app.specs.Replay.{MayCome}
+use Rattle.damon_app.specs.Replay.{MayCome, MayWrite, Wrote}
 use Rattle.damon_app.specs.StatusOf.{status_of_input, status_of_text}
-use Rattle.damon_app.specs.Answers.{IsOutcome, IsRefusal, IsTaken, MayWrite, RefusesAs, WritesWanted}
-use Rattle.damon_app.proofs.Counting.{EndsAtFault-as, EndsAtFault-not, EndsAtFault-rose}
+use Rattle.damon_app.specs.Answers.{IsOutcome, IsRefusal, IsTaken, RefusesAs}
+use Rattle.text_io.proofs.Lemmas.{EndsAtFault-as, EndsAtFault-not, EndsAtFault-rose}
 use Rattle.damon_app.proofs.Known.{GaveUpTo-not_over, WritesPart-whole}
 use Rattle.damon_app.proofs.Statuses.{had_over, status_of_input-long, status_of_input-short, text_comes}
 
@@ -203,9 +203,9 @@ module _ (limit : ℕ) (request : Request) (source source' sink sink' : Ends) (s
     not_written (statuses.Unlawful line) ends writes part = absurd ends
 
     -- it was written
-    pub written : WritesWell → Appends sink.bytes sink'.bytes text → WritesWanted request taken.bytes sink.bytes sink'.bytes → IsOutcome limit request source source' sink sink' same statuses.Ok
-    written silent all wanted = record {
-      ok = λ e. of_bytes taken.bytes taken.all taken.end taken.few (λ bytes. WritesWanted request bytes sink.bytes sink'.bytes) wanted;
+    pub written : WritesWell → Appends sink.bytes sink'.bytes text → IsOutcome limit request source source' sink sink' same statuses.Ok
+    written silent all = record {
+      ok = λ e. of_bytes taken.bytes taken.all taken.end taken.few (λ bytes. Wrote request bytes sink.bytes sink'.bytes) (text, taken.wanted, all);
       end = λ yes. taken.end;
       complete = has_status taken.bytes taken.all taken.end taken.few statuses.Ok taken.status;
       too_long = λ not known. ((λ e. absurd (cc e)), (λ gave. absurd (not_over taken.bytes taken.all taken.end taken.few known gave)));

@@ -1,10 +1,9 @@
 -- What the answer says of two requests: of a plain report, and of a journal whose text is refused.
-use Rattle.std.proofs.Common.{◌≡◌, ℕ, List, Option, Some, None, Err, ap, sym, subst}
+use Rattle.std.proofs.Common.{◌≡◌, ◌∙◌, ℕ, List, Option, Some, None, Err, ap, sym, subst}
 use Rattle.std.specs.Prelude.{IfSome, String}
 use Rattle.std.specs.declared.alloc.Global.{Global}
 use Rattle.std.specs.Io.KnownBytes.{Appends}
-use Rattle.snapshot_print.specs.Lines.{as_text}
-use Rattle.script_run.specs.Report.{report}
+use Rattle.snapshot_print.specs.declared.form.Form.TheVariants.{Text}
 use Rattle.script_run.specs.TextReport.{ReportsAreText, text_report}
 use Rattle.journal_text.specs.Reading.{read_journal}
 use Rattle.run_status.specs.Status.{IsRead}
@@ -13,18 +12,20 @@ use Rattle.run_status.specs.declared.status.Status.{Status}
 use Rattle.run_status.specs.declared.status.Status.TheVariants.{Unlawful}
 use Rattle.damon_app.specs.declared.request.Request.{Request}
 use Rattle.damon_app.specs.declared.request.Request.TheVariants.{Report, Verify, Heat, Admin, Generate}
-use Rattle.damon_app.specs.Replay.{MayCome, Reports, TellsFault, TellsReport}
+use Rattle.damon_app.specs.declared.request.Run.TheVariants.{Plain}
+use Rattle.damon_app.specs.Replay.{MayCome, Reports, TellsFault, Wrote}
 use Rattle.damon_app.specs.Request.{AskToReplay, ReadsInput, asked, request_of}
 
 -- a report as it is printed is the text of the states along its run
-by_states : ReportsAreText → (told old new : Option (List ℕ)) → IfSome told (λ bytes. Reports (report as_text) bytes old new) → IfSome told (λ bytes. Reports text_report bytes old new)
-by_states texts None old new tells = tt
-by_states texts (Some bytes) old new tells =
-    record { script = tells.script; spells = tells.spells; report = subst (Appends old new) (sym (texts tells.script)) tells.report }
+by_states : ReportsAreText → (told old new : Option (List ℕ)) → IfSome told (λ bytes. Wrote (Report (Plain Text)) bytes old new) → IfSome told (λ bytes. Reports text_report bytes old new)
+by_states texts None old new wrote = tt
+by_states texts (Some bytes) old new (text, (s, spells, is), all) =
+    record { script = s; spells = spells; report = subst (Appends old new) (sym is ∙ sym (texts s)) all }
 
 -- the report that `replay` asks for is the one in text
-pub plain_report : ReportsAreText → (words : List (String Global)) (told old new : Option (List ℕ)) → AskToReplay words → IfSome told (λ bytes. TellsReport (asked words) bytes old new) → IfSome told (λ bytes. Reports text_report bytes old new)
-plain_report texts words told old new asks tells = by_states texts told old new (subst (λ (request : Option Request). IfSome told (λ bytes. TellsReport request bytes old new)) (ap request_of asks) tells)
+pub plain_report : ReportsAreText → (words : List (String Global)) (told old new : Option (List ℕ)) → AskToReplay words
+    → ((wanted : Request) → asked words ≡ Some wanted → IfSome told (λ bytes. Wrote wanted bytes old new)) → IfSome told (λ bytes. Reports text_report bytes old new)
+plain_report texts words told old new asks wrote = by_states texts told old new (wrote (Report (Plain Text)) (ap request_of asks))
 
 -- a text that is told has a rejected line, and so is that of no lawful run
 told_unlawful : ((text : List ℕ) (line : ℕ) → read_journal text ≡ Err line → IsOfNoLawfulRun text) → (status : Status) (told : Option (List ℕ)) (line : ℕ) → status ≡ Unlawful line → IfSome told (TellsFault (Some Verify) status) → IfSome told IsOfNoLawfulRun

@@ -1,52 +1,32 @@
 -- The clauses of the top call in one record, for the private functions below it. No public clause cites this file.
-use Rattle.std.specs.Prelude.{◌≡◌, ◌≢◌, ◌⊎◌, ◌↔◌, ℕ, ◌≤◌, ◌+◌, List, length, Option, Some, None, Ok, IfSome, IsSome}
+use Rattle.std.specs.Prelude.{◌≡◌, ◌≢◌, ◌↔◌, ℕ, ◌≤◌, ◌+◌, List, length, Option, Some, None, IfSome, IsSome}
 use Rattle.std.specs.Io.KnownBytes.{Appends, Consumes, IsAtEnd}
 use Rattle.damon_types.specs.Calls.{EndsAtFault, Rose}
+use Rattle.damon_types.specs.declared.calls.Calls.{Calls}
 use Rattle.damon_control.specs.Script.{ScriptValue}
-use Rattle.damon_control.specs.Text.{IsText}
 use Rattle.damon_admin.specs.Admin.{AdminView, left_text}
-use Rattle.damon_admin.specs.Lines.{ContextLine, lines_said}
-use Rattle.damon_admin.specs.Written.{output_of}
 use Rattle.damon_app.specs.declared.request.Run.{Run}
 use Rattle.damon_app.specs.declared.request.Request.{Request}
-use Rattle.damon_app.specs.declared.request.Request.TheVariants.{Report, Verify, Heat, Admin, Generate}
-use Rattle.run_journal.specs.declared.lawful.Lawful.{Lawful}
+use Rattle.damon_app.specs.declared.request.Request.TheVariants.{Report, Heat, Admin, Generate}
 use Rattle.run_status.specs.declared.status.Status.{Status}
 use Rattle.run_status.specs.declared.status.Status.TheVariants as statuses
 use Rattle.text_io.specs.Given.{GaveOver}
-use Rattle.text_io.specs.Taken.{WritesPart}
-use Rattle.damon_app.specs.Request.{ReadsInput, ReadsJournal}
+use Rattle.damon_app.specs.Request.{ReadsInput}
 use Rattle.text_io.specs.Ends.{Ends}
 use Rattle.run_status.specs.Status.{IsRead, IsUnwritten}
-use Rattle.journal_check.specs.Verified.{IsRunText, IsVerified}
 use Rattle.damon_app.specs.StatusOf.{status_of_text}
-use Rattle.damon_app.specs.Replay.{IsBegun, IsExpected, IsOfInput, MayCome, TellsFault, TellsJournal, TellsReport, report_of}
+use Rattle.damon_app.specs.Replay.{CallsFor, IsBegun, IsExpected, IsOfInput, MayCome, MayWrite, TellsFault, Wrote, report_of}
 use Rattle.run_journal.specs.Aggregated.{aggregated}
 use Rattle.journal_check.specs.Replayer.{Leads, ReplayerView}
 use Rattle.journal_text.specs.Place.{JournalRead}
 use Rattle.run_journal.specs.Replay.{replay}
 use Rattle.damon_app.specs.declared.request.Columns.{Columns}
-use Rattle.damon_app.specs.Contexts.{Administers}
 use Rattle.damon_app.specs.Generated.{gen_text}
-use Rattle.damon_app.specs.Heating.{Heats, heat_text}
-use Rattle.damon_app.specs.Verifying.{counts_line}
+use Rattle.damon_app.specs.Heating.{heat_text}
 
--- the bytes of an input call for this text
-abbrev pub CallsFor : Request → List ℕ → List ℕ → Type 0
-CallsFor (Report run) bytes text = (s : ScriptValue) × IsText bytes s × (report_of run s ≡ text)
-CallsFor Verify bytes text = (counts : Lawful) × IsVerified bytes counts × (counts_line counts ≡ text)
-CallsFor (Heat columns) bytes text = (said : JournalRead) × IsRunText bytes said × (heat_text columns said ≡ text)
-CallsFor Admin bytes text = (lines : List ContextLine) × (lines_said bytes ≡ Ok lines) × (output_of lines ≡ text)
-CallsFor (Generate n) bytes text = ⊥
-
--- the sink gained the text that the bytes call for, and the numbers of heat tables add up
-abbrev pub WritesWanted : Request → List ℕ → Option (List ℕ) → Option (List ℕ) → Type 0
-WritesWanted (Heat columns) bytes old new = Heats columns bytes old new
-WritesWanted request bytes old new = (text : List ℕ) × CallsFor request bytes text × Appends old new text
-
--- the sink was left alone, which is `same`, or it gained a prefix of that text
-abbrev pub MayWrite : Request → Type 0 → List ℕ → Option (List ℕ) → Option (List ℕ) → Type 0
-MayWrite request same bytes old new = same ⊎ ((text : List ℕ) × CallsFor request bytes text × WritesPart old new text)
+-- a source or a sink, by what it has left or took, and how often it was called
+abbrev pub ends_of : {A : Type 0} → (A → Option (List ℕ)) → (A → Calls) → A → Ends
+ends_of bytes calls end = record { bytes = bytes end; calls = calls end }
 
 -- a status that refuses an input for what it says
 abbrev pub IsRefusal : Status → Type 0
@@ -60,7 +40,7 @@ RefusesAs request status bytes = (refusal : Status) → IsRefusal refusal → (s
 
 -- what a status says of a request for which an input is read, where `same` is that the sink was left alone
 pub record IsOutcome (limit : ℕ) (request : Request) (source source' sink sink' : Ends) (same : Type 0) (status : Status) : Type 0 where
-  pub ok : status ≡ statuses.Ok → IfSome source.bytes (λ bytes. WritesWanted request bytes sink.bytes sink'.bytes)
+  pub ok : status ≡ statuses.Ok → IfSome source.bytes (λ bytes. Wrote request bytes sink.bytes sink'.bytes)
   pub end : IsRead status → IsAtEnd source'.bytes
   pub complete : IsOfInput request status limit source.bytes (Rose source.calls source'.calls) (Rose sink.calls sink'.calls)
   pub too_long : status ≢ statuses.Memory → IsSome source.bytes
@@ -102,7 +82,6 @@ pub record IsRunTaken (limit : ℕ) (source source' : Ends) (r : ReplayerView) :
   pub said : JournalRead
   pub leads : Leads (aggregated said.live said.journal) (replay said.live said.journal).state r
   pub taken : (columns : Columns) → IsTaken limit (Heat columns) source source' (heat_text columns said)
-  pub lawful : (columns : Columns) → IsRunText (taken columns).bytes said
 
 -- what a status says where no journal was read, whatever the number of columns
 abbrev pub IsRunRefused : ℕ → Ends → Ends → Status → Type 0
@@ -114,9 +93,8 @@ AreContextsTaken limit source source' contexts = IsTaken limit Admin source sour
 
 -- what a status says of what was asked for, where `alone` and `same` are that the source and the sink were left alone
 pub record IsAnswer (limit : ℕ) (request : Option Request) (source source' sink sink' : Ends) (alone same : Type 0) (status : Status) : Type 0 where
-  pub report : status ≡ statuses.Ok → IfSome source.bytes (λ bytes. TellsReport request bytes sink.bytes sink'.bytes)
-  pub lawful : status ≡ statuses.Ok → ReadsJournal request → IfSome source.bytes (λ bytes. TellsJournal request bytes sink.bytes sink'.bytes)
-  pub output : status ≡ statuses.Ok → request ≡ Some Admin → IfSome source.bytes (λ bytes. Administers bytes sink.bytes sink'.bytes)
+  pub wrote : (wanted : Request) → status ≡ statuses.Ok → request ≡ Some wanted
+      → IfSome source.bytes (λ bytes. Wrote wanted bytes sink.bytes sink'.bytes)
   pub summary : (n : ℕ) → status ≡ statuses.Ok → request ≡ Some (Generate n) → Appends sink.bytes sink'.bytes (gen_text n)
   pub end : ReadsInput request → IsRead status → IsAtEnd source'.bytes
   pub complete : IsExpected request status limit source.bytes (Rose source.calls source'.calls) (Rose sink.calls sink'.calls)

@@ -1,18 +1,14 @@
 -- What `heat` writes.
-use Rattle.std.specs.Prelude.{◌≡◌, ℕ, ◌<◌, List, [], ◌∷◌, ◌++◌, flat_map, length, map, sum, Ok, Option}
-use Rattle.std.specs.List.{AllByRecursion}
-use Rattle.std.specs.Io.KnownBytes.{Appends}
+use Rattle.std.specs.Prelude.{◌≡◌, ℕ, ◌<◌, List, [], ◌∷◌, ◌++◌, flat_map, length, map, sum, Option}
 use Rattle.damon_core.specs.State.{State}
 use Rattle.run_journal.specs.Aggregated.{aggregated}
 use Rattle.journal_text.specs.Place.{JournalRead}
 use Rattle.journal_check.specs.Replayer.{Leads, ReplayerView}
-use Rattle.journal_check.specs.Verified.{IsRunText}
 use Rattle.damon_types.specs.Ranges.{page_total}
 use Rattle.damon_types.specs.RowPages.{working_set}
 use Rattle.heat_report.specs.Freq.{freqs}
 use Rattle.heat_report.specs.Heat.{target_heats, target_total}
 use Rattle.heat_report.specs.Text.{last_line, report_text}
-use Rattle.text_io.specs.Taken.{WritesPart}
 use Rattle.damon_app.specs.Pieces.{HandsOver}
 use Rattle.damon_app.specs.declared.request.Columns.{Columns}
 use Rattle.damon_app.specs.declared.request.Columns.TheVariants.{Eight, Sixteen, SixtyFour}
@@ -63,14 +59,3 @@ WritesNext n old new = (states : List State) (last : State) → Leads states las
 -- the heat tables of a journal: those of the states of its replay directly after each aggregation
 abbrev pub heat_text : Columns → JournalRead → List ℕ
 heat_text columns said = tables_text (columns_in columns) (aggregated said.live said.journal)
-
--- The bytes are the text of a lawful journal, and the sink gained exactly its heat tables, whose numbers add up.
-pub record Heats (columns : Columns) (bytes : List ℕ) (old new : Option (List ℕ)) : Type 0 where
-  pub said : JournalRead
-  pub run : IsRunText bytes said
-  pub tables : Appends old new (heat_text columns said)
-  pub sums : AllByRecursion (AddUp (columns_in columns)) (aggregated said.live said.journal)
-
--- the bytes are the text of a lawful journal, and the sink gained a prefix of its heat tables
-abbrev pub HeatsPrefix : Columns → List ℕ → Option (List ℕ) → Option (List ℕ) → Type 0
-HeatsPrefix columns bytes old new = (said : JournalRead) × IsRunText bytes said × WritesPart old new (heat_text columns said)

@@ -6,7 +6,6 @@ pub mod Generated
 pub mod Verifying
 pub mod Pieces
 pub mod Heating
-pub mod Contexts
 pub mod Runs
 pub mod Replay
 pub mod Answers

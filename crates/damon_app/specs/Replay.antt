@@ -1,5 +1,6 @@
 -- What the program makes of what it was asked for.
-use Rattle.std.specs.Prelude.{◌≡◌, ◌⊎◌, ◌↔◌, ℕ, List, Option, Some, None, Err, IfSome}
+use Rattle.std.specs.Prelude.{◌≡◌, ◌⊎◌, ◌↔◌, ℕ, List, Option, Some, None, Ok, Err, IfSome}
+use Rattle.std.specs.List.{AllByRecursion}
 use Rattle.std.specs.Io.KnownBytes.{Appends}
 use Rattle.damon_control.specs.Script.{ScriptValue, script_of}
 use Rattle.damon_control.specs.Text.{IsText}
@@ -11,13 +12,15 @@ use Rattle.tune_run.specs.Report.{tuned_report}
 use Rattle.damon_app.specs.Generated.{gen_text}
 use Rattle.journal_text.specs.Reading.{read_journal}
 use Rattle.run_status.specs.Status.{IsFailure}
-use Rattle.journal_check.specs.Verified.{IsVerified}
+use Rattle.journal_check.specs.Verified.{IsRunText, IsVerified}
+use Rattle.journal_text.specs.Place.{JournalRead}
+use Rattle.run_journal.specs.Aggregated.{aggregated}
 use Rattle.run_journal.specs.declared.lawful.Lawful.{Lawful}
 use Rattle.damon_app.specs.Request.{ReadsJournal, ReadsScript}
 use Rattle.damon_app.specs.StatusOf.{status_of_input}
-use Rattle.damon_admin.specs.Lines.{lines_said}
-use Rattle.damon_app.specs.Contexts.{OutputPrefix}
-use Rattle.damon_app.specs.Heating.{Heats, HeatsPrefix}
+use Rattle.damon_admin.specs.Lines.{ContextLine, lines_said}
+use Rattle.damon_admin.specs.Written.{output_of}
+use Rattle.damon_app.specs.Heating.{AddUp, columns_in, heat_text}
 use Rattle.damon_app.specs.Verifying.{counts_line}
 use Rattle.text_io.specs.Taken.{WritesPart}
 use Rattle.damon_app.specs.declared.request.Run.{Run}
@@ -39,40 +42,30 @@ pub record Reports (report_of : ScriptValue → List ℕ) (bytes : List ℕ) (ol
   pub spells : IsText bytes script
   pub report : Appends old new (report_of script)
 
--- where a script is run, the sink gained exactly the report of that run
-abbrev pub TellsReport : Option Request → List ℕ → Option (List ℕ) → Option (List ℕ) → Type 0
-TellsReport (Some (Report run)) bytes old new = Reports (report_of run) bytes old new
-TellsReport _ bytes old new = Unit {0}
+-- The bytes of an input call for this text: the report of the script that they spell, the line of the lawful journal of which they are
+-- the text, its heat tables, whose numbers add up, or the output of the contexts whose lines they are. A generated run has one text.
+abbrev pub CallsFor : Request → (bytes text : List ℕ) → Type 0
+CallsFor (Report run) bytes text = (s : ScriptValue) × IsText bytes s × (report_of run s ≡ text)
+CallsFor Verify bytes text = (counts : Lawful) × IsVerified bytes counts × (counts_line counts ≡ text)
+CallsFor (Heat columns) bytes text =
+    (said : JournalRead) × IsRunText bytes said × (heat_text columns said ≡ text)
+    × AllByRecursion (AddUp (columns_in columns)) (aggregated said.live said.journal)
+CallsFor Admin bytes text = (lines : List ContextLine) × (lines_said bytes ≡ Ok lines) × (output_of lines ≡ text)
+CallsFor (Generate n) bytes text = gen_text n ≡ text
 
--- the bytes spell a script, and the sink gained a prefix of its report, where it is run like this
-abbrev pub WritesPrefix : Run → List ℕ → Option (List ℕ) → Option (List ℕ) → Type 0
-WritesPrefix run bytes old new =
-    (s : ScriptValue) × IsText bytes s × WritesPart old new (report_of run s)
+-- the sink gained exactly a text that the bytes call for
+abbrev pub Wrote : Request → List ℕ → Option (List ℕ) → Option (List ℕ) → Type 0
+Wrote request bytes old new = (text : List ℕ) × CallsFor request bytes text × Appends old new text
 
--- The bytes are the text of a lawful journal, and the sink gained exactly the line of its counts.
-pub record Verifies (bytes : List ℕ) (old new : Option (List ℕ)) : Type 0 where
-  pub counts : Lawful
-  pub lawful : IsVerified bytes counts
-  pub line : Appends old new (counts_line counts)
+-- the sink was left alone, which is `same`, or it gained a prefix of such a text
+abbrev pub MayWrite : Request → Type 0 → List ℕ → Option (List ℕ) → Option (List ℕ) → Type 0
+MayWrite request same bytes old new = same ⊎ ((text : List ℕ) × CallsFor request bytes text × WritesPart old new text)
 
--- the bytes are the text of a lawful journal, and the sink gained a prefix of the line of its counts
-abbrev pub VerifiesPrefix : List ℕ → Option (List ℕ) → Option (List ℕ) → Type 0
-VerifiesPrefix bytes old new = (counts : Lawful) × IsVerified bytes counts × WritesPart old new (counts_line counts)
-
--- the line or the tables are those of the journal that the bytes are
-abbrev pub TellsJournal : Option Request → List ℕ → Option (List ℕ) → Option (List ℕ) → Type 0
-TellsJournal (Some Verify) bytes old new = Verifies bytes old new
-TellsJournal (Some (Heat columns)) bytes old new = Heats columns bytes old new
-TellsJournal _ bytes old new = Unit {0}
-
--- The sink was left alone, which is `same`, or it gained a prefix of what was asked for.
+-- the sink was left alone, or it gained a prefix of what was asked for
 abbrev pub IsBegun : Option Request → Type 0 → (input old new : Option (List ℕ)) → Type 0
-IsBegun (Some (Report run)) same input old new = IfSome input (λ bytes. same ⊎ WritesPrefix run bytes old new)
-IsBegun (Some Verify) same input old new = IfSome input (λ bytes. same ⊎ VerifiesPrefix bytes old new)
-IsBegun (Some (Heat columns)) same input old new = IfSome input (λ bytes. same ⊎ HeatsPrefix columns bytes old new)
-IsBegun (Some Admin) same input old new = IfSome input (λ bytes. same ⊎ OutputPrefix bytes old new)
-IsBegun (Some (Generate n)) same input old new = WritesPart old new (gen_text n)
 IsBegun None same input old new = same
+IsBegun (Some (Generate n)) same input old new = WritesPart old new (gen_text n)
+IsBegun (Some request) same input old new = IfSome input (λ bytes. MayWrite request same bytes old new)
 
 -- the status is the one of the input, of which at most `limit` bytes are allowed, or a failure
 abbrev pub IsOfInput : Request → Status → ℕ → Option (List ℕ) → Type 0 → Type 0 → Type 0
@@ -83,12 +76,9 @@ IsOfInput request status limit input read write =
 -- `limit` bytes, the status of the input; for a generated run, in which no read can fail, `Ok`; for other words, where nothing is
 -- read or written, `Usage`.
 abbrev pub IsExpected : Option Request → Status → ℕ → Option (List ℕ) → Type 0 → Type 0 → Type 0
-IsExpected (Some (Report run)) status limit input read write = IsOfInput (Report run) status limit input read write
-IsExpected (Some Verify) status limit input read write = IsOfInput Verify status limit input read write
-IsExpected (Some (Heat columns)) status limit input read write = IsOfInput (Heat columns) status limit input read write
-IsExpected (Some Admin) status limit input read write = IsOfInput Admin status limit input read write
-IsExpected (Some (Generate n)) status limit input read write = (status ≡ statuses.Ok) ⊎ IsFailure status ⊥ write
 IsExpected None status limit input read write = (status ≡ statuses.Usage) ⊎ IsFailure status ⊥ ⊥
+IsExpected (Some (Generate n)) status limit input read write = (status ≡ statuses.Ok) ⊎ IsFailure status ⊥ write
+IsExpected (Some request) status limit input read write = IsOfInput request status limit input read write
 
 -- the status refuses the text exactly where the bytes have this fault of a script, this first refused line of several contexts, or this
 -- first rejected line of a journal

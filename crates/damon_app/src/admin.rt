@@ -1,21 +1,18 @@
 // What several contexts say.
-ghost use Rattle.std.specs.Prelude.{◌≡◌, ◌≤◌, ◌<◌, ◌++◌, [], Ok, true, false, length};
-ghost use Rattle.std.specs.Prelude.{IfErr, IfOk, IsErrOf, OnErr, OnOk};
+ghost use Rattle.std.specs.Prelude.{◌≡◌, IfErr, IfOk, IsErrOf, OnOk};
 ghost use Rattle.std.specs.Io.KnownBytes.{Appends};
 ghost use Rattle.damon_types.specs.Calls.{EndsAtFault};
 ghost use Rattle.damon_admin.specs.Admin.{left_text};
 ghost use Rattle.run_status.specs.Status.{EndsRun, status_of};
 ghost use Rattle.text_io.specs.Taken.{WritesPart};
-ghost use Rattle.damon_app.specs.Answers.{AreContextsTaken, IsOutcome, IsRefused};
-ghost use Rattle.damon_app.specs.Pieces.{HandsOver};
+ghost use Rattle.damon_app.specs.Answers.{AreContextsTaken, IsOutcome, IsRefused, ends_of};
 ghost use Rattle.damon_app.specs.declared.request.Request.TheVariants.{Admin as admin};
 
-use crate::pieces::hand_over;
 use damon_admin::Admin;
 use damon_types::{Sink, Source};
 use run_status::Status;
 use std::alloc::Global;
-use text_io::{INPUT_LIMIT, read_all, write_all};
+use text_io::{INPUT_LIMIT, pump, read_all};
 
 // Reads the lines of several contexts, and hands what these say to the sink a piece at a time.
 pub(crate) fn run_contexts<S: Source, K: Sink>(
@@ -24,10 +21,8 @@ pub(crate) fn run_contexts<S: Source, K: Sink>(
     sink: &mut K,
 ) -> Result<(), Status>
     ensures { IsOutcome INPUT_LIMIT admin
-        (record { bytes = S.left source.old; calls = S.calls source.old })
-        (record { bytes = S.left source.new; calls = S.calls source.new })
-        (record { bytes = K.taken sink.old; calls = K.calls sink.old })
-        (record { bytes = K.taken sink.new; calls = K.calls sink.new })
+        (ends_of S.left S.calls source.old) (ends_of S.left S.calls source.new)
+        (ends_of K.taken K.calls sink.old) (ends_of K.taken K.calls sink.new)
         (sink.new ≡ sink.old) (status_of result) }
 {
     let mut contexts = take_contexts(alloc, source)?;
@@ -38,11 +33,9 @@ pub(crate) fn run_contexts<S: Source, K: Sink>(
 // Reads a source to its end, and returns the contexts of which its bytes are the lines.
 fn take_contexts<S: Source>(alloc: Global, source: &mut S) -> Result<Admin, Status>
     ensures taken { IfOk result (AreContextsTaken INPUT_LIMIT
-        (record { bytes = S.left source.old; calls = S.calls source.old })
-        (record { bytes = S.left source.new; calls = S.calls source.new })) }
+        (ends_of S.left S.calls source.old) (ends_of S.left S.calls source.new)) }
     ensures refused { IfErr result (IsRefused INPUT_LIMIT admin
-        (record { bytes = S.left source.old; calls = S.calls source.old })
-        (record { bytes = S.left source.new; calls = S.calls source.new })) }
+        (ends_of S.left S.calls source.old) (ends_of S.left S.calls source.new)) }
 {
     let bytes = read_all(alloc, source)?;
     let contexts = Admin::of(alloc, bytes)?;
@@ -58,35 +51,6 @@ fn write_output<K: Sink>(alloc: Global, contexts: &mut Admin, sink: &mut K) -> R
         (K.calls sink.old) (K.calls sink.new) }
     ensures part { WritesPart (K.taken sink.old) (K.taken sink.new) (left_text contexts.old) }
 {
-    let mut piece = Vec::new(alloc);
-    'lines: while write_next(alloc, contexts, &mut piece, sink)? {}
-    write_all(sink, &piece)?;
+    pump(alloc, contexts, sink)?;
     Ok(())
-}
-
-// Does the next line, and appends what it writes to the piece, which is handed over once it is large enough.
-// False where no line is left.
-fn write_next<K: Sink>(
-    alloc: Global,
-    contexts: &mut Admin,
-    piece: &mut Vec<u8>,
-    sink: &mut K,
-) -> Result<bool, Status>
-    ensures on { result ≡ Ok true → HandsOver (K.taken sink.old) (K.taken sink.new)
-        (piece.old.items ++ left_text contexts.old) (piece.new.items ++ left_text contexts.new) }
-    ensures less { result ≡ Ok true → length contexts.new.left < length contexts.old.left }
-    ensures end { result ≡ Ok false → left_text contexts.old ≡ [] }
-    ensures same { result ≡ Ok false →
-        (piece.new.items ≡ piece.old.items) × (sink.new ≡ sink.old) }
-    ensures answers { IfErr result EndsRun }
-    ensures writes { EndsAtFault (IsErrOf result Status.WriteFault)
-        (K.calls sink.old) (K.calls sink.new) }
-    ensures part { OnErr result (WritesPart (K.taken sink.old) (K.taken sink.new)
-        (piece.old.items ++ left_text contexts.old)) }
-{
-    if !contexts.next(alloc, piece)? {
-        return Ok(false);
-    }
-    hand_over(sink, piece)?;
-    Ok(true)
 }

@@ -1,7 +1,7 @@
 ghost use Rattle.std.specs.Prelude.{◌≡◌, IfOk};
 ghost use Rattle.damon_app.specs.Verifying.{counts_line};
 
-use crate::summary::print_field;
+use line_text::{append_field, end_line};
 use run_journal::Lawful;
 use std::alloc::{AllocError, Global};
 
@@ -10,9 +10,9 @@ pub(crate) fn make_line(alloc: Global, counts: Lawful) -> Result<Vec<u8>, AllocE
     ensures { IfOk result (λ line. line.items ≡ counts_line counts) }
 {
     let mut line = Vec::new(alloc);
-    print_field(&mut line, b"lawful passes=", counts.passes)?;
-    print_field(&mut line, b" loads=", counts.loads)?;
-    print_field(&mut line, b" hits=", counts.hits)?;
-    line.extend_from_slice(b"\n")?;
+    append_field(&mut line, b"lawful passes=", counts.passes)?;
+    append_field(&mut line, b" loads=", counts.loads)?;
+    append_field(&mut line, b" hits=", counts.hits)?;
+    end_line(&mut line)?;
     Ok(line)
 }

@@ -1,5 +1,5 @@
 // The heat tables of a journal.
-ghost use Rattle.std.specs.Prelude.{◌≡◌, ℕ, ◌≤◌, ◌<◌, ◌++◌, ◌∷◌, [], List, Ok, true, false, flat_map, IfErr, IfOk, IsErrOf, OnErr, OnOk};
+ghost use Rattle.std.specs.Prelude.{◌≡◌, ◌≤◌, ◌<◌, ◌++◌, ◌∷◌, [], List, Ok, true, false, flat_map, IfErr, IfOk, IsErrOf, OnErr, OnOk};
 ghost use Rattle.std.specs.Io.KnownBytes.{Appends};
 ghost use Rattle.damon_types.specs.Calls.{EndsAtFault};
 ghost use Rattle.damon_types.specs.RowPages.{working_set};
@@ -8,7 +8,7 @@ ghost use Rattle.damon_core.specs.State.{State};
 ghost use Rattle.journal_check.specs.Replayer.{Leads, StandsForReached};
 ghost use Rattle.run_status.specs.Status.{EndsRun, status_of};
 ghost use Rattle.text_io.specs.Taken.{WritesPart};
-ghost use Rattle.damon_app.specs.Answers.{IsOutcome, IsRunRefused, IsRunTaken};
+ghost use Rattle.damon_app.specs.Answers.{IsOutcome, IsRunRefused, IsRunTaken, ends_of};
 ghost use Rattle.damon_app.specs.Heating.{WritesNext, columns_in, tables_of, tables_text};
 ghost use Rattle.damon_app.specs.declared.request.Request.TheVariants.{Heat as heat};
 
@@ -31,14 +31,10 @@ pub(crate) fn show_heat<S: Source, K: Sink>(
     sink: &mut K,
 ) -> Result<(), Status>
     ensures { IsOutcome INPUT_LIMIT (heat columns)
-        (record { bytes = S.left source.old; calls = S.calls source.old })
-        (record { bytes = S.left source.new; calls = S.calls source.new })
-        (record { bytes = K.taken sink.old; calls = K.calls sink.old })
-        (record { bytes = K.taken sink.new; calls = K.calls sink.new })
+        (ends_of S.left S.calls source.old) (ends_of S.left S.calls source.new)
+        (ends_of K.taken K.calls sink.old) (ends_of K.taken K.calls sink.new)
         (sink.new ≡ sink.old) (status_of result) }
 {
-    // For its clause alone: the numbers of the tables add up.
-    heat_tables_add_up();
     let mut replayer = take_run(alloc, source)?;
     write_tables_in(alloc, columns, &mut replayer, sink)?;
     Ok(())
@@ -47,12 +43,12 @@ pub(crate) fn show_heat<S: Source, K: Sink>(
 // Reads a source to its end, and returns the replay of the lawful journal of which its bytes are the text.
 fn take_run<S: Source>(alloc: Global, source: &mut S) -> Result<Replayer, Status>
     ensures taken { IfOk result (IsRunTaken INPUT_LIMIT
-        (record { bytes = S.left source.old; calls = S.calls source.old })
-        (record { bytes = S.left source.new; calls = S.calls source.new })) }
+        (ends_of S.left S.calls source.old) (ends_of S.left S.calls source.new)) }
     ensures refused { IfErr result (IsRunRefused INPUT_LIMIT
-        (record { bytes = S.left source.old; calls = S.calls source.old })
-        (record { bytes = S.left source.new; calls = S.calls source.new })) }
+        (ends_of S.left S.calls source.old) (ends_of S.left S.calls source.new)) }
 {
+    // For its clause alone: the numbers of the tables add up.
+    heat_tables_add_up();
     let bytes = read_all(alloc, source)?;
     let replayer = Replayer::new(alloc, &bytes)?;
     Ok(replayer)

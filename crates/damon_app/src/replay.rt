@@ -10,14 +10,13 @@ ghost use Rattle.text_io.specs.Taken.{WritesPart};
 ghost use Rattle.script_run.specs.TextReport.{text_report};
 ghost use Rattle.damon_admin.specs.Laws.{ContextsAreApart, ContextsAreBound, VoicesAreReports};
 ghost use Rattle.damon_app.specs.Request.{AskToReplay, ReadsInput, ReadsJournal, asked};
-ghost use Rattle.damon_app.specs.Contexts.{Administers};
 ghost use Rattle.damon_app.specs.Generated.{gen_text};
 ghost use Rattle.damon_app.specs.Runs.{EachRunChoosesBest, EachRunFollowsGoals, EachRunIsAccounted, EachRunIsBound};
 ghost use Rattle.damon_app.specs.Runs.{GeneratedRunsAreRight};
 ghost use Rattle.run_status.specs.Status.{EndsRun, IsRead, IsUnwritten, status_of};
 ghost use Rattle.journal_check.specs.Verified.{IsOfNoLawfulRun};
-ghost use Rattle.damon_app.specs.Replay.{IsBegun, IsExpected, MayCome, Reports, TellsFault, TellsJournal, TellsReport};
-ghost use Rattle.damon_app.specs.Answers.{IsAnswer, IsOutcome, IsRefused, IsScriptRefused, IsScriptTaken, IsTaken};
+ghost use Rattle.damon_app.specs.Replay.{IsBegun, IsExpected, MayCome, Reports, TellsFault, Wrote};
+ghost use Rattle.damon_app.specs.Answers.{IsAnswer, IsOutcome, IsRefused, IsScriptRefused, IsScriptTaken, IsTaken, ends_of};
 ghost use Rattle.damon_app.specs.declared.request.Request.TheVariants.{Admin as admin, Generate as generate, Verify as verify};
 ghost use Rattle.damon_app.specs.declared.request.Request.TheVariants.{Report as report_by};
 
@@ -62,12 +61,14 @@ pub fn replay_main<S: Source, K: Sink>(
     // It is what the words ask for, whatever they are: the report of a script in its form, over a model of
     // resident pages or with quotas that follow goals, the line of the lawful journal whose text was read,
     // its heat tables, whose numbers add up, the output of contexts, or the line of the generated script.
-    ensures report { result ≡ Status.Ok → IfSome (S.left source.old)
-        (λ bytes. TellsReport (asked words.now) bytes (K.taken sink.old) (K.taken sink.new)) }
-    ensures lawful { result ≡ Status.Ok → ReadsJournal (asked words.now) → IfSome (S.left source.old)
-        (λ bytes. TellsJournal (asked words.now) bytes (K.taken sink.old) (K.taken sink.new)) }
+    ensures report { (run : Run) → result ≡ Status.Ok → asked words.now ≡ Some (report_by run) →
+        IfSome (S.left source.old)
+        (λ bytes. Wrote (report_by run) bytes (K.taken sink.old) (K.taken sink.new)) }
+    ensures lawful { (request : Request) → result ≡ Status.Ok → asked words.now ≡ Some request →
+        ReadsJournal (Some request) → IfSome (S.left source.old)
+        (λ bytes. Wrote request bytes (K.taken sink.old) (K.taken sink.new)) }
     ensures output { result ≡ Status.Ok → asked words.now ≡ Some admin → IfSome (S.left source.old)
-        (λ bytes. Administers bytes (K.taken sink.old) (K.taken sink.new)) }
+        (λ bytes. Wrote admin bytes (K.taken sink.old) (K.taken sink.new)) }
     ensures summary { (n : ℕ) → result ≡ Status.Ok → asked words.now ≡ Some (generate n) →
         Appends (K.taken sink.old) (K.taken sink.new) (gen_text n) }
     ensures end { ReadsInput (asked words.now) → IsRead result → IsAtEnd (S.left source.new) }
@@ -149,10 +150,8 @@ fn serve<S: Source, K: Sink>(
     sink: &mut K,
 ) -> Status
     ensures { IsAnswer INPUT_LIMIT (asked words.now)
-        (record { bytes = S.left source.old; calls = S.calls source.old })
-        (record { bytes = S.left source.new; calls = S.calls source.new })
-        (record { bytes = K.taken sink.old; calls = K.calls sink.old })
-        (record { bytes = K.taken sink.new; calls = K.calls sink.new })
+        (ends_of S.left S.calls source.old) (ends_of S.left S.calls source.new)
+        (ends_of K.taken K.calls sink.old) (ends_of K.taken K.calls sink.new)
         (source.new ≡ source.old) (sink.new ≡ sink.old) result }
 {
     match read_request(alloc, words) {
@@ -170,10 +169,8 @@ fn fulfil<S: Source, K: Sink>(
     sink: &mut K,
 ) -> Status
     ensures { IsAnswer INPUT_LIMIT (Some request)
-        (record { bytes = S.left source.old; calls = S.calls source.old })
-        (record { bytes = S.left source.new; calls = S.calls source.new })
-        (record { bytes = K.taken sink.old; calls = K.calls sink.old })
-        (record { bytes = K.taken sink.new; calls = K.calls sink.new })
+        (ends_of S.left S.calls source.old) (ends_of S.left S.calls source.new)
+        (ends_of K.taken K.calls sink.old) (ends_of K.taken K.calls sink.new)
         (source.new ≡ source.old) (sink.new ≡ sink.old) result }
 {
     match request {
@@ -193,10 +190,8 @@ fn replay<S: Source, K: Sink>(
     sink: &mut K,
 ) -> Result<(), Status>
     ensures { IsOutcome INPUT_LIMIT (report_by run)
-        (record { bytes = S.left source.old; calls = S.calls source.old })
-        (record { bytes = S.left source.new; calls = S.calls source.new })
-        (record { bytes = K.taken sink.old; calls = K.calls sink.old })
-        (record { bytes = K.taken sink.new; calls = K.calls sink.new })
+        (ends_of S.left S.calls source.old) (ends_of S.left S.calls source.new)
+        (ends_of K.taken K.calls sink.old) (ends_of K.taken K.calls sink.new)
         (sink.new ≡ sink.old) (status_of result) }
 {
     let script = take_script(alloc, source)?;
@@ -208,12 +203,10 @@ fn replay<S: Source, K: Sink>(
 // of this function: the run needs only the script, and does not keep the memory of both.
 fn take_script<S: Source>(alloc: Global, source: &mut S) -> Result<Script, Status>
     ensures taken { IfOk result (λ script. IsScriptTaken INPUT_LIMIT
-        (record { bytes = S.left source.old; calls = S.calls source.old })
-        (record { bytes = S.left source.new; calls = S.calls source.new })
+        (ends_of S.left S.calls source.old) (ends_of S.left S.calls source.new)
         (said_by script)) }
     ensures refused { IfErr result (IsScriptRefused INPUT_LIMIT
-        (record { bytes = S.left source.old; calls = S.calls source.old })
-        (record { bytes = S.left source.new; calls = S.calls source.new })) }
+        (ends_of S.left S.calls source.old) (ends_of S.left S.calls source.new)) }
 
     // What the player of a script needs.
     ensures within { IfOk result (λ script.
@@ -235,10 +228,8 @@ fn check_journal<S: Source, K: Sink>(
     sink: &mut K,
 ) -> Result<(), Status>
     ensures { IsOutcome INPUT_LIMIT verify
-        (record { bytes = S.left source.old; calls = S.calls source.old })
-        (record { bytes = S.left source.new; calls = S.calls source.new })
-        (record { bytes = K.taken sink.old; calls = K.calls sink.old })
-        (record { bytes = K.taken sink.new; calls = K.calls sink.new })
+        (ends_of S.left S.calls source.old) (ends_of S.left S.calls source.new)
+        (ends_of K.taken K.calls sink.old) (ends_of K.taken K.calls sink.new)
         (sink.new ≡ sink.old) (status_of result) }
 {
     let line = take_journal(alloc, source)?;
@@ -249,12 +240,10 @@ fn check_journal<S: Source, K: Sink>(
 // Reads a source to its end, and returns the line of the lawful journal of which its bytes are the text.
 fn take_journal<S: Source>(alloc: Global, source: &mut S) -> Result<Vec<u8>, Status>
     ensures taken { IfOk result (λ line. IsTaken INPUT_LIMIT verify
-        (record { bytes = S.left source.old; calls = S.calls source.old })
-        (record { bytes = S.left source.new; calls = S.calls source.new })
+        (ends_of S.left S.calls source.old) (ends_of S.left S.calls source.new)
         line.items) }
     ensures refused { IfErr result (IsRefused INPUT_LIMIT verify
-        (record { bytes = S.left source.old; calls = S.calls source.old })
-        (record { bytes = S.left source.new; calls = S.calls source.new })) }
+        (ends_of S.left S.calls source.old) (ends_of S.left S.calls source.new)) }
 {
     let bytes = read_all(alloc, source)?;
     let counts = verify(alloc, &bytes)?;

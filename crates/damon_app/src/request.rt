@@ -71,7 +71,7 @@ fn has_option(words: &[String]) -> bool
     words.iter().any(|word| begins_with_hyphen(word.as_bytes()))
 }
 
-// Whether this word does.
+// Whether this word begins with a hyphen.
 fn begins_with_hyphen(word: &[u8]) -> bool
     ensures { result ≡ begins_with_hyphen word.now }
 {

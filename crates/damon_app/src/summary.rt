@@ -1,10 +1,9 @@
 ghost use Rattle.std.specs.Prelude.{◌≡◌, ◌++◌, IfOk, OnOk};
-ghost use Rattle.std.specs.Fmt.{decimal};
 ghost use Rattle.snapshot_print.specs.Printed.{printed_monitor};
 ghost use Rattle.damon_app.specs.Generated.{applied_in, gen_line, gen_text, run_part, totals_part};
 
 use damon_core::Monitor;
-use line_text::write_number;
+use line_text::{append_field, end_line};
 use scheme_engine::SlotView;
 use script_run::play_to_end;
 use std::alloc::{AllocError, Global};
@@ -35,9 +34,9 @@ fn print_run(out: &mut Vec<u8>, number: u64, monitor: &Monitor) -> Result<(), Al
     ensures { OnOk result (out.new.items
         ≡ out.old.items ++ run_part number (printed_monitor monitor.now)) }
 {
-    print_field(out, b"gen ", number)?;
-    print_field(out, b" ticks=", monitor.ticks())?;
-    print_field(out, b" rows=", u64::from(monitor.rows().len()))
+    append_field(out, b"gen ", number)?;
+    append_field(out, b" ticks=", monitor.ticks())?;
+    append_field(out, b" rows=", u64::from(monitor.rows().len()))
 }
 
 // Appends the checks and hits, the pages to which slot 0 was applied, and the line's end.
@@ -45,10 +44,10 @@ fn print_totals(out: &mut Vec<u8>, monitor: &Monitor) -> Result<(), AllocError>
     ensures { OnOk result (out.new.items
         ≡ out.old.items ++ totals_part (printed_monitor monitor.now)) }
 {
-    print_field(out, b" checks=", monitor.checks())?;
-    print_field(out, b" hits=", monitor.hits())?;
-    print_field(out, b" applied=", applied(monitor))?;
-    out.extend_from_slice(b"\n")
+    append_field(out, b" checks=", monitor.checks())?;
+    append_field(out, b" hits=", monitor.hits())?;
+    append_field(out, b" applied=", applied(monitor))?;
+    end_line(out)
 }
 
 // The pages to which slot 0 was applied.
@@ -59,12 +58,4 @@ fn applied(monitor: &Monitor) -> u64
         Some(SlotView { applied, .. }) => applied,
         None => 0,
     }
-}
-
-// Appends a field's name and a number in decimal.
-pub(crate) fn print_field(out: &mut Vec<u8>, name: &[u8], value: u64) -> Result<(), AllocError>
-    ensures { OnOk result (out.new.items ≡ out.old.items ++ (name.now ++ decimal value)) }
-{
-    out.extend_from_slice(name)?;
-    write_number(out, value)
 }

@@ -1,25 +1,23 @@
-use Rattle.std.proofs.Common.{◌≡◌, ◌≤◌, refl, arith}
+use Rattle.std.proofs.Common.{◌≡◌, refl}
 use Rattle.std.proofs.lemmas.Result.{err_from_is_err_and}
 use Rattle.text_io.specs.Ends.{Ends}
 use Rattle.text_io.specs.declared.input.TheConstants.{INPUT_LIMIT}
-use Rattle.damon_core.specs.Reached.{CanOpen}
 use Rattle.run_journal.specs.Aggregated.{aggregated}
 use Rattle.run_journal.specs.Replay.{replay}
-use Rattle.damon_app.specs.declared.request.Columns.{Columns}
-use Rattle.damon_app.specs.declared.request.Columns.TheVariants.{Eight, Sixteen, SixtyFour}
+use Rattle.damon_app.specs.Answers.{ends_of}
 use Rattle.damon_app.specs.declared.request.Request.TheVariants.{Heat}
-use Rattle.damon_app.specs.Heating.{columns_in, heat_text}
+use Rattle.damon_app.specs.Heating.{heat_text}
 use Rattle.damon_app.proofs.Answering.{left_alone, not_written, written}
-use Rattle.damon_app.proofs.Counting.{EndsAtFault-error, EndsAtFault-not}
+use Rattle.text_io.proofs.Lemmas.{EndsAtFault-error, EndsAtFault-not}
 use Rattle.damon_app.proofs.heat.show_heat.Goals as goal
 
 pub returns-in_err-replayer : goal.returns-in_err-replayer
 returns-in_err-replayer g c =
     let p = err_from_is_err_and c.from_residual.result c.from_residual.ensures.1 in
-    let sink : Ends = record { bytes = g.K.Sink.taken c.args.sink.now; calls = g.K.Sink.calls c.args.sink.now } in
+    let sink : Ends = ends_of g.K.Sink.taken g.K.Sink.calls c.args.sink.now in
     rw (p.1, p.2) (left_alone INPUT_LIMIT (Heat c.args.columns)
-    (record { bytes = g.S.Source.left c.args.source.now; calls = g.S.Source.calls c.args.source.now })
-    (record { bytes = g.S.Source.left c.take_run.new.source; calls = g.S.Source.calls c.take_run.new.source })
+    (ends_of g.S.Source.left g.S.Source.calls c.args.source.now)
+    (ends_of g.S.Source.left g.S.Source.calls c.take_run.new.source)
     sink (c.args.sink.now ≡ c.args.sink.now) c.in_err-replayer.field-0.0 refl (c.in_err-replayer.ensures.refused c.args.columns sink))
 
 pub returns-in_err-write_tables_in : goal.returns-in_err-write_tables_in
@@ -30,31 +28,22 @@ returns-in_err-write_tables_in g c =
     let states = aggregated run.said.live run.said.journal in
     let last = (replay run.said.live run.said.journal).state in
     rw (p.1, p.2) (not_written INPUT_LIMIT (Heat c.args.columns)
-    (record { bytes = g.S.Source.left c.args.source.now; calls = g.S.Source.calls c.args.source.now })
-    (record { bytes = g.S.Source.left c.take_run.new.source; calls = g.S.Source.calls c.take_run.new.source })
-    (record { bytes = g.K.Sink.taken c.args.sink.now; calls = g.K.Sink.calls c.args.sink.now })
-    (record { bytes = g.K.Sink.taken c.write_tables_in.new.sink; calls = g.K.Sink.calls c.write_tables_in.new.sink })
+    (ends_of g.S.Source.left g.S.Source.calls c.args.source.now)
+    (ends_of g.S.Source.left g.S.Source.calls c.take_run.new.source)
+    (ends_of g.K.Sink.taken g.K.Sink.calls c.args.sink.now)
+    (ends_of g.K.Sink.taken g.K.Sink.calls c.write_tables_in.new.sink)
     (c.write_tables_in.new.sink ≡ c.args.sink.now) (heat_text c.args.columns run.said) (run.taken c.args.columns) c.in_err-write_tables_in.field-0.0
     failed.answers (EndsAtFault-error failed.writes) (failed.part states last run.leads))
-
-some_columns : (columns : Columns) → 1 ≤ columns_in columns
-some_columns Eight = omega arith
-some_columns Sixteen = omega arith
-some_columns SixtyFour = omega arith
 
 pub returns : goal.returns
 returns g c =
     let run = c.in_ok-replayer.ensures.taken in
-    let is = (run.lawful c.args.columns).lawful in
-    let can : CanOpen run.said.live.setup = record { space = is.spellable.setup.space; sound = is.spellable.setup.setup; order = is.spellable.setup.order } in
-    let sums = c.heat_tables_add_up.ensures (columns_in c.args.columns) run.said.live run.said.journal (some_columns c.args.columns) can is.lawful.journal in
     let states = aggregated run.said.live run.said.journal in
     let last = (replay run.said.live run.said.journal).state in
-    let tables = c.in_ok-write_tables_in.ensures.all states last run.leads in
     written INPUT_LIMIT (Heat c.args.columns)
-    (record { bytes = g.S.Source.left c.args.source.now; calls = g.S.Source.calls c.args.source.now })
-    (record { bytes = g.S.Source.left c.take_run.new.source; calls = g.S.Source.calls c.take_run.new.source })
-    (record { bytes = g.K.Sink.taken c.args.sink.now; calls = g.K.Sink.calls c.args.sink.now })
-    (record { bytes = g.K.Sink.taken c.write_tables_in.new.sink; calls = g.K.Sink.calls c.write_tables_in.new.sink })
-    (c.write_tables_in.new.sink ≡ c.args.sink.now) (heat_text c.args.columns run.said) (run.taken c.args.columns) (EndsAtFault-not (λ e. cc e) (λ no. no) c.in_ok-write_tables_in.ensures.writes) tables
-    (record { said = run.said; run = run.lawful c.args.columns; tables = tables; sums = sums })
+    (ends_of g.S.Source.left g.S.Source.calls c.args.source.now)
+    (ends_of g.S.Source.left g.S.Source.calls c.take_run.new.source)
+    (ends_of g.K.Sink.taken g.K.Sink.calls c.args.sink.now)
+    (ends_of g.K.Sink.taken g.K.Sink.calls c.write_tables_in.new.sink)
+    (c.write_tables_in.new.sink ≡ c.args.sink.now) (heat_text c.args.columns run.said) (run.taken c.args.columns) (EndsAtFault-not (λ e. cc e) (λ no. no) c.in_ok-write_tables_in.ensures.writes)
+    (c.in_ok-write_tables_in.ensures.all states last run.leads)

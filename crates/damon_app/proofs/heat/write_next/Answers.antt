@@ -2,7 +2,8 @@ use Rattle.std.proofs.Common.{refl, sym, ◌∙◌, subst}
 use Rattle.std.proofs.lemmas.Result.{err_from_is_err_and}
 use Rattle.damon_core.specs.Stands.{MonitorView, Stands}
 use Rattle.damon_app.proofs.Heating.{first_part}
-use Rattle.damon_app.proofs.Counting.{EndsAtFault-as, EndsAtFault-none, EndsAtFault-not, no_fault_of_memory}
+use Rattle.text_io.proofs.Lemmas.{EndsAtFault-as, EndsAtFault-none, EndsAtFault-not}
+use Rattle.damon_app.proofs.Counting.{no_fault_of_memory}
 use Rattle.damon_app.proofs.heat.write_next.Goals as goal
 
 pub returns-in_default-clause-end : goal.returns-in_default-clause-end

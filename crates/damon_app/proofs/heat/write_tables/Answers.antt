@@ -5,7 +5,8 @@ use Rattle.text_io.specs.Taken.{WritesPart}
 use Rattle.damon_app.specs.Heating.{tables_text}
 use Rattle.damon_app.proofs.Known.{WritesPart-whole}
 use Rattle.damon_app.proofs.Heating.{written_first, told_kept, told_last, written_next, told_part, told_same, told_whole}
-use Rattle.damon_app.proofs.Counting.{EndsAtFault-as, EndsAtFault-none, EndsAtFault-not, EndsAtFault-passed, EndsAtFault-then, no_fault_of_memory}
+use Rattle.text_io.proofs.Lemmas.{EndsAtFault-as, EndsAtFault-none, EndsAtFault-not, EndsAtFault-passed, EndsAtFault-then}
+use Rattle.damon_app.proofs.Counting.{no_fault_of_memory}
 use Rattle.damon_app.proofs.heat.write_tables.Goals as goal
 
 pub reports-init : goal.reports-init

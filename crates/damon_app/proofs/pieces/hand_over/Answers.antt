@@ -1,4 +1,4 @@
-use Rattle.damon_app.proofs.Counting.{EndsAtFault-none}
+use Rattle.text_io.proofs.Lemmas.{EndsAtFault-none}
 use Rattle.damon_app.proofs.pieces.hand_over.Goals as goal
 
 pub returns-then-len-lt-PIECE-clause-writes : goal.returns-then-len-lt-PIECE-clause-writes

@@ -4,19 +4,20 @@ use Rattle.std.proofs.lemmas.Result.{err_from_is_err_and}
 use Rattle.text_io.specs.Ends.{Ends}
 use Rattle.text_io.specs.Taken.{WritesPart}
 use Rattle.text_io.specs.declared.input.TheConstants.{INPUT_LIMIT}
+use Rattle.damon_app.specs.Answers.{ends_of}
 use Rattle.damon_app.specs.declared.request.Request.TheVariants.{Verify}
 use Rattle.run_status.specs.declared.status.Status.TheVariants.{WriteFault}
 use Rattle.damon_app.proofs.Answering.{left_alone, not_written, written}
-use Rattle.damon_app.proofs.Counting.{EndsAtFault-as, EndsAtFault-not}
+use Rattle.text_io.proofs.Lemmas.{EndsAtFault-as, EndsAtFault-not}
 use Rattle.damon_app.proofs.replay.check_journal.Goals as goal
 
 pub returns-in_err-line : goal.returns-in_err-line
 returns-in_err-line g c =
     let p = err_from_is_err_and c.from_residual.result c.from_residual.ensures.1 in
-    let sink : Ends = record { bytes = g.K.Sink.taken c.args.sink.now; calls = g.K.Sink.calls c.args.sink.now } in
+    let sink : Ends = ends_of g.K.Sink.taken g.K.Sink.calls c.args.sink.now in
     rw (p.1, p.2) (left_alone INPUT_LIMIT Verify
-    (record { bytes = g.S.Source.left c.args.source.now; calls = g.S.Source.calls c.args.source.now })
-    (record { bytes = g.S.Source.left c.take_journal.new.source; calls = g.S.Source.calls c.take_journal.new.source })
+    (ends_of g.S.Source.left g.S.Source.calls c.args.source.now)
+    (ends_of g.S.Source.left g.S.Source.calls c.take_journal.new.source)
     sink (c.args.sink.now ≡ c.args.sink.now) c.in_err-line.field-0.0 refl (c.in_err-line.ensures.refused sink))
 
 pub returns-in_err-write_all : goal.returns-in_err-write_all
@@ -24,10 +25,10 @@ returns-in_err-write_all g c =
     let p = err_from_is_err_and c.from_residual-in_err-write_all.result c.from_residual-in_err-write_all.ensures.1 in
     let taken = g.K.Sink.taken in
     rw (p.1, p.2) (not_written INPUT_LIMIT Verify
-    (record { bytes = g.S.Source.left c.args.source.now; calls = g.S.Source.calls c.args.source.now })
-    (record { bytes = g.S.Source.left c.take_journal.new.source; calls = g.S.Source.calls c.take_journal.new.source })
-    (record { bytes = taken c.args.sink.now; calls = g.K.Sink.calls c.args.sink.now })
-    (record { bytes = taken c.write_all.new.sink; calls = g.K.Sink.calls c.write_all.new.sink })
+    (ends_of g.S.Source.left g.S.Source.calls c.args.source.now)
+    (ends_of g.S.Source.left g.S.Source.calls c.take_journal.new.source)
+    (ends_of taken g.K.Sink.calls c.args.sink.now)
+    (ends_of taken g.K.Sink.calls c.write_all.new.sink)
     (c.write_all.new.sink ≡ c.args.sink.now) c.in_ok-line.line.items c.in_ok-line.ensures.taken WriteFault tt
     (EndsAtFault-as (λ e. refl) (λ e. refl) c.in_err-write_all.ensures.writes)
     (subst (WritesPart (taken c.args.sink.now) (taken c.write_all.new.sink)) c.deref.ensures.value c.in_err-write_all.ensures.part))
@@ -35,11 +36,11 @@ returns-in_err-write_all g c =
 pub returns : goal.returns
 returns g c =
     let taken = g.K.Sink.taken in
-    let line = subst (Appends (taken c.args.sink.now) (taken c.write_all.new.sink)) c.deref.ensures.value c.in_ok-write_all.ensures.all in
     written INPUT_LIMIT Verify
-    (record { bytes = g.S.Source.left c.args.source.now; calls = g.S.Source.calls c.args.source.now })
-    (record { bytes = g.S.Source.left c.take_journal.new.source; calls = g.S.Source.calls c.take_journal.new.source })
-    (record { bytes = taken c.args.sink.now; calls = g.K.Sink.calls c.args.sink.now })
-    (record { bytes = taken c.write_all.new.sink; calls = g.K.Sink.calls c.write_all.new.sink })
+    (ends_of g.S.Source.left g.S.Source.calls c.args.source.now)
+    (ends_of g.S.Source.left g.S.Source.calls c.take_journal.new.source)
+    (ends_of taken g.K.Sink.calls c.args.sink.now)
+    (ends_of taken g.K.Sink.calls c.write_all.new.sink)
     (c.write_all.new.sink ≡ c.args.sink.now) c.in_ok-line.line.items c.in_ok-line.ensures.taken
-    (EndsAtFault-not (λ e. cc e) (λ no. no) c.in_ok-write_all.ensures.writes) line (c.in_ok-line.line.items, c.in_ok-line.ensures.taken.wanted, line)
+    (EndsAtFault-not (λ e. cc e) (λ no. no) c.in_ok-write_all.ensures.writes)
+    (subst (Appends (taken c.args.sink.now) (taken c.write_all.new.sink)) c.deref.ensures.value c.in_ok-write_all.ensures.all)

@@ -1,21 +1,22 @@
 use Rattle.std.proofs.Common.{◌≡◌, refl}
 use Rattle.std.proofs.lemmas.Result.{err_from_is_err_and}
 use Rattle.damon_control.specs.ScriptView.{said_by}
+use Rattle.damon_app.specs.Answers.{ends_of}
 use Rattle.damon_app.specs.Replay.{report_of}
 use Rattle.text_io.specs.Ends.{Ends}
 use Rattle.text_io.specs.declared.input.TheConstants.{INPUT_LIMIT}
 use Rattle.damon_app.specs.declared.request.Request.TheVariants.{Report}
 use Rattle.damon_app.proofs.Answering.{left_alone, not_written, written}
-use Rattle.damon_app.proofs.Counting.{EndsAtFault-error, EndsAtFault-not}
+use Rattle.text_io.proofs.Lemmas.{EndsAtFault-error, EndsAtFault-not}
 use Rattle.damon_app.proofs.replay.replay.Goals as goal
 
 pub returns-in_err-script : goal.returns-in_err-script
 returns-in_err-script g c =
     let p = err_from_is_err_and c.from_residual.result c.from_residual.ensures.1 in
-    let sink : Ends = record { bytes = g.K.Sink.taken c.args.sink.now; calls = g.K.Sink.calls c.args.sink.now } in
+    let sink : Ends = ends_of g.K.Sink.taken g.K.Sink.calls c.args.sink.now in
     rw (p.1, p.2) (left_alone INPUT_LIMIT (Report c.args.run)
-    (record { bytes = g.S.Source.left c.args.source.now; calls = g.S.Source.calls c.args.source.now })
-    (record { bytes = g.S.Source.left c.take_script.new.source; calls = g.S.Source.calls c.take_script.new.source })
+    (ends_of g.S.Source.left g.S.Source.calls c.args.source.now)
+    (ends_of g.S.Source.left g.S.Source.calls c.take_script.new.source)
     sink (c.args.sink.now ≡ c.args.sink.now) c.in_err-script.field-0.0 refl (c.in_err-script.ensures.refused c.args.run sink))
 
 pub returns-in_err-write_report : goal.returns-in_err-write_report
@@ -23,19 +24,18 @@ returns-in_err-write_report g c =
     let p = err_from_is_err_and c.from_residual-in_err-write_report.result c.from_residual-in_err-write_report.ensures.1 in
     let failed = c.in_err-write_report.ensures in
     rw (p.1, p.2) (not_written INPUT_LIMIT (Report c.args.run)
-    (record { bytes = g.S.Source.left c.args.source.now; calls = g.S.Source.calls c.args.source.now })
-    (record { bytes = g.S.Source.left c.take_script.new.source; calls = g.S.Source.calls c.take_script.new.source })
-    (record { bytes = g.K.Sink.taken c.args.sink.now; calls = g.K.Sink.calls c.args.sink.now })
-    (record { bytes = g.K.Sink.taken c.write_report.new.sink; calls = g.K.Sink.calls c.write_report.new.sink })
+    (ends_of g.S.Source.left g.S.Source.calls c.args.source.now)
+    (ends_of g.S.Source.left g.S.Source.calls c.take_script.new.source)
+    (ends_of g.K.Sink.taken g.K.Sink.calls c.args.sink.now)
+    (ends_of g.K.Sink.taken g.K.Sink.calls c.write_report.new.sink)
     (c.write_report.new.sink ≡ c.args.sink.now) (report_of c.args.run (said_by c.in_ok-script.script)) (c.in_ok-script.ensures.taken c.args.run) c.in_err-write_report.field-0.0
     failed.answers (EndsAtFault-error failed.writes) failed.part)
 
 pub returns : goal.returns
 returns g c =
     written INPUT_LIMIT (Report c.args.run)
-    (record { bytes = g.S.Source.left c.args.source.now; calls = g.S.Source.calls c.args.source.now })
-    (record { bytes = g.S.Source.left c.take_script.new.source; calls = g.S.Source.calls c.take_script.new.source })
-    (record { bytes = g.K.Sink.taken c.args.sink.now; calls = g.K.Sink.calls c.args.sink.now })
-    (record { bytes = g.K.Sink.taken c.write_report.new.sink; calls = g.K.Sink.calls c.write_report.new.sink })
+    (ends_of g.S.Source.left g.S.Source.calls c.args.source.now)
+    (ends_of g.S.Source.left g.S.Source.calls c.take_script.new.source)
+    (ends_of g.K.Sink.taken g.K.Sink.calls c.args.sink.now)
+    (ends_of g.K.Sink.taken g.K.Sink.calls c.write_report.new.sink)
     (c.write_report.new.sink ≡ c.args.sink.now) (report_of c.args.run (said_by c.in_ok-script.script)) (c.in_ok-script.ensures.taken c.args.run) (EndsAtFault-not (λ e. cc e) (λ no. no) c.in_ok-write_report.ensures.writes) c.in_ok-write_report.ensures.all
-    (report_of c.args.run (said_by c.in_ok-script.script), (c.in_ok-script.ensures.taken c.args.run).wanted, c.in_ok-write_report.ensures.all)

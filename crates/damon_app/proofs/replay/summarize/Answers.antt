@@ -1,6 +1,6 @@
 use Rattle.std.proofs.Common.{refl}
 use Rattle.std.proofs.lemmas.Result.{err_from_is_err_and}
-use Rattle.damon_app.proofs.Counting.{EndsAtFault-as, EndsAtFault-none, EndsAtFault-not}
+use Rattle.text_io.proofs.Lemmas.{EndsAtFault-as, EndsAtFault-none, EndsAtFault-not}
 use Rattle.damon_app.proofs.replay.summarize.Goals as goal
 
 pub returns-in_err-line-clause-writes : goal.returns-in_err-line-clause-writes

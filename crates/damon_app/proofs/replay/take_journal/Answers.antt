@@ -3,10 +3,11 @@ use Rattle.std.proofs.lemmas.Result.{err_from_is_err_and}
 use Rattle.text_io.specs.declared.input.TheConstants.{INPUT_LIMIT}
 use Rattle.journal_text.specs.Reading.{read_journal}
 use Rattle.journal_check.specs.Verified.{IsVerified}
+use Rattle.damon_app.specs.Answers.{ends_of}
 use Rattle.damon_app.specs.declared.request.Request.TheVariants.{Verify}
 use Rattle.damon_app.specs.StatusOf.{status_of_journal}
 use Rattle.damon_app.proofs.Answering.{not_read, not_verified, out_of_memory}
-use Rattle.damon_app.proofs.Counting.{EndsAtFault-error, EndsAtFault-none, EndsAtFault-not}
+use Rattle.text_io.proofs.Lemmas.{EndsAtFault-error, EndsAtFault-none, EndsAtFault-not}
 use Rattle.damon_app.proofs.replay.take_journal.Goals as goal
 
 pub returns-in_err-bytes-clause-refused : goal.returns-in_err-bytes-clause-refused
@@ -14,8 +15,8 @@ returns-in_err-bytes-clause-refused g c =
     let p = err_from_is_err_and c.from_residual.result c.from_residual.ensures.1 in
     let failed = c.in_err-bytes.ensures in
     rw (p.1, p.2) (λ sink. not_read INPUT_LIMIT Verify
-    (record { bytes = g.S.Source.left c.args.source.now; calls = g.S.Source.calls c.args.source.now })
-    (record { bytes = g.S.Source.left c.read_all.new.source; calls = g.S.Source.calls c.read_all.new.source })
+    (ends_of g.S.Source.left g.S.Source.calls c.args.source.now)
+    (ends_of g.S.Source.left g.S.Source.calls c.read_all.new.source)
     sink sink (Unit {0}) c.in_err-bytes.field-0.0 tt
     (λ e. failed.too_long (ap (λ x. Err x) e)) (λ e. failed.within (ap (λ x. Err x) e)) (EndsAtFault-error failed.reads) failed.calls (EndsAtFault-none sink.calls (λ no. no)))
 
@@ -24,8 +25,8 @@ returns-in_err-counts-clause-refused g c =
     let p = err_from_is_err_and c.from_residual-in_err-counts.result c.from_residual-in_err-counts.ensures.1 in
     let read = c.in_ok-bytes.ensures in
     rw (p.1, p.2) (λ sink. not_verified INPUT_LIMIT Verify
-    (record { bytes = g.S.Source.left c.args.source.now; calls = g.S.Source.calls c.args.source.now })
-    (record { bytes = g.S.Source.left c.read_all.new.source; calls = g.S.Source.calls c.read_all.new.source })
+    (ends_of g.S.Source.left g.S.Source.calls c.args.source.now)
+    (ends_of g.S.Source.left g.S.Source.calls c.read_all.new.source)
     sink sink (Unit {0}) c.in_ok-bytes.bytes.items read.all read.end read.limit c.in_err-counts.field-0.0 (EndsAtFault-not (λ e. cc e) (λ no. no) read.reads, read.calls) (EndsAtFault-none sink.calls (λ no. no)) tt
     (λ n e. ap status_of_journal (subst (λ bs. read_journal bs ≡ Err n) c.deref.ensures.value (rw e at c.in_err-counts.ensures.line))))
 
@@ -34,8 +35,8 @@ returns-in_err-line-clause-refused g c =
     let p = err_from_is_err_and c.from_residual-in_err-line.result c.from_residual-in_err-line.ensures.1 in
     let read = c.in_ok-bytes.ensures in
     rw (p.1, p.2) (λ sink. out_of_memory INPUT_LIMIT Verify
-    (record { bytes = g.S.Source.left c.args.source.now; calls = g.S.Source.calls c.args.source.now })
-    (record { bytes = g.S.Source.left c.read_all.new.source; calls = g.S.Source.calls c.read_all.new.source })
+    (ends_of g.S.Source.left g.S.Source.calls c.args.source.now)
+    (ends_of g.S.Source.left g.S.Source.calls c.read_all.new.source)
     sink sink (Unit {0}) (EndsAtFault-not (λ e. cc e) (λ no. no) read.reads, read.calls) (EndsAtFault-none sink.calls (λ no. no)) tt)
 
 pub returns-clause-taken : goal.returns-clause-taken

@@ -8,7 +8,8 @@ use Rattle.damon_control.specs.ScriptView.{said_by}
 use Rattle.text_io.specs.Taken.{WritesPart}
 use Rattle.damon_app.proofs.Known.{WritesPart-after, WritesPart-whole}
 use Rattle.damon_app.proofs.Playing.{way-ended, way-filled, way-part}
-use Rattle.damon_app.proofs.Counting.{EndsAtFault-as, EndsAtFault-none, EndsAtFault-not, EndsAtFault-then, no_fault_of_memory}
+use Rattle.text_io.proofs.Lemmas.{EndsAtFault-as, EndsAtFault-none, EndsAtFault-not, EndsAtFault-then}
+use Rattle.damon_app.proofs.Counting.{no_fault_of_memory}
 use Rattle.damon_app.proofs.run.write_played.Goals as goal
 
 pub returns-in_err-fill-clause-part : goal.returns-in_err-fill-clause-part

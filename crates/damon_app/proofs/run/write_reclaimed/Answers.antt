@@ -1,7 +1,8 @@
 use Rattle.std.proofs.Common.{sym}
 use Rattle.std.proofs.lemmas.Result.{err_from_is_err_and}
 use Rattle.live_commit.specs.SetupView.{value_of}
-use Rattle.damon_app.proofs.Counting.{EndsAtFault-none, no_fault_of_memory}
+use Rattle.text_io.proofs.Lemmas.{EndsAtFault-none}
+use Rattle.damon_app.proofs.Counting.{no_fault_of_memory}
 use Rattle.damon_app.proofs.run.write_reclaimed.Goals as goal
 
 pub write_played-requires-clause-opening : goal.write_played-requires-clause-opening
