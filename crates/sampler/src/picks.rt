@@ -194,9 +194,8 @@ pub fn draw_picks<R: Rng>(regions: &Regions, source: &mut R, picks: &mut Picks)
     set_count(&mut picks.pages, regions.len());
     pick_drawn(
         regions,
-        Places::of(regions),
+        Places::of(regions, &picks.reciprocals),
         source,
-        &picks.reciprocals,
         &mut picks.pages,
     );
     clear_bits(&mut picks.bits, regions.len());
@@ -218,44 +217,31 @@ pub fn set_picks(regions: &Regions, words: &[u32], picks: &mut Picks)
     set_count(&mut picks.pages, regions.len());
     pick_given(
         regions,
-        Places::of(regions),
+        Places::of(regions, &picks.reciprocals),
         words,
-        &picks.reciprocals,
         &mut picks.pages,
     );
     clear_bits(&mut picks.bits, regions.len());
 }
 
 // Picks a page of each row by the words that are given.
-fn pick_given(
-    regions: &Regions,
-    places: Places<'_>,
-    words: &[u32],
-    reciprocals: &[Reciprocal],
-    pages: &mut [u32],
-)
+fn pick_given(regions: &Regions, places: Places<'_>, words: &[u32], pages: &mut [u32])
     requires places { ArePlacesOf regions.now.rows places.starts.now places.sizes.now }
     requires words { length words.now ≡ length regions.now.rows }
-    requires reciprocals { length regions.now.rows ≤ length reciprocals.now }
+    requires reciprocals { length regions.now.rows ≤ length places.reciprocals.now }
     requires each { length pages.old ≡ length regions.now.rows }
     ensures { pages.new ≡ picks_of regions.now.rows words.now }
 {
     for index in 0..regions.len() {
-        let page = pick_at(regions, places, reciprocals, index, words[index as usize]);
+        let page = pick_at(regions, places, index, words[index as usize]);
         pages[index as usize] = page;
     }
 }
 
 // The page that a word picks of the row with this index, which is below the number of rows.
-fn pick_at(
-    regions: &Regions,
-    places: Places<'_>,
-    reciprocals: &[Reciprocal],
-    index: u32,
-    word: u32,
-) -> u32
+fn pick_at(regions: &Regions, places: Places<'_>, index: u32, word: u32) -> u32
     requires places { ArePlacesOf regions.now.rows places.starts.now places.sizes.now }
-    requires reciprocals { length regions.now.rows ≤ length reciprocals.now }
+    requires reciprocals { length regions.now.rows ≤ length places.reciprocals.now }
     requires index { index < length regions.now.rows }
     ensures { (words : List ℕ) → slice_get words index ≡ Some word
         → picks_of (take (suc index) regions.now.rows) words
@@ -264,21 +250,15 @@ fn pick_at(
     // For its clauses alone: the row has a page, and ends below page 2^32.
     let _row = regions.row(index);
     let place = index as usize;
-    let offset = remainder(word, places.sizes[place], &reciprocals[place]);
+    let offset = remainder(word, places.sizes[place], &places.reciprocals[place]);
     places.starts[place] + offset
 }
 
 // Picks a page of each row by the next random words. It is kept apart, so that its loop has the registers.
 #[inline(never)]
-fn pick_drawn<R: Rng>(
-    regions: &Regions,
-    places: Places<'_>,
-    source: &mut R,
-    reciprocals: &[Reciprocal],
-    pages: &mut [u32],
-)
+fn pick_drawn<R: Rng>(regions: &Regions, places: Places<'_>, source: &mut R, pages: &mut [u32])
     requires places { ArePlacesOf regions.now.rows places.starts.now places.sizes.now }
-    requires reciprocals { length regions.now.rows ≤ length reciprocals.now }
+    requires reciprocals { length regions.now.rows ≤ length places.reciprocals.now }
     requires each { length pages.old ≡ length regions.now.rows }
     ensures pages { pages.new
         ≡ picks_of regions.now.rows (drawn (length regions.now.rows) (R.stream source.old)) }
@@ -287,11 +267,11 @@ fn pick_drawn<R: Rng>(
 {
     let rows = regions.len();
     'fours: for four in 0..rows / 4 {
-        pick_four(regions, places, source, reciprocals, 4 * four, pages);
+        pick_four(regions, places, source, 4 * four, pages);
     }
     'others: for index in rows / 4 * 4..rows {
         let word = source.next_u32();
-        pages[index as usize] = pick_at(regions, places, reciprocals, index, word);
+        pages[index as usize] = pick_at(regions, places, index, word);
     }
 }
 
@@ -303,12 +283,11 @@ fn pick_four<R: Rng>(
     regions: &Regions,
     places: Places<'_>,
     source: &mut R,
-    reciprocals: &[Reciprocal],
     from: u32,
     pages: &mut [u32],
 )
     requires places { ArePlacesOf regions.now.rows places.starts.now places.sizes.now }
-    requires reciprocals { length regions.now.rows ≤ length reciprocals.now }
+    requires reciprocals { length regions.now.rows ≤ length places.reciprocals.now }
     requires within { from + 4 ≤ length regions.now.rows }
     requires each { length pages.old ≡ length regions.now.rows }
     ensures pages { (s : Stream) → R.stream source.old ≡ drawn_rest from s
@@ -326,10 +305,10 @@ fn pick_four<R: Rng>(
     let third = source.next_u32();
     let fourth = source.next_u32();
     let index = from as usize;
-    pages[index] = pick_at(regions, places, reciprocals, from, first);
-    pages[index + 1] = pick_at(regions, places, reciprocals, from + 1, second);
-    pages[index + 2] = pick_at(regions, places, reciprocals, from + 2, third);
-    pages[index + 3] = pick_at(regions, places, reciprocals, from + 3, fourth);
+    pages[index] = pick_at(regions, places, from, first);
+    pages[index + 1] = pick_at(regions, places, from + 1, second);
+    pages[index + 2] = pick_at(regions, places, from + 2, third);
+    pages[index + 3] = pick_at(regions, places, from + 3, fourth);
 }
 
 // Makes the list one of `count` pages, whatever they are.

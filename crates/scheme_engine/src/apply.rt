@@ -4,15 +4,15 @@ ghost use Rattle.region_list.specs.Find.{row_index};
 ghost use Rattle.region_list.specs.Rows.{row_at};
 ghost use Rattle.damon_types.specs.Span.{spans};
 ghost use Rattle.damon_types.specs.Within.{AreWithin};
-ghost use Rattle.scheme_filter.specs.Passes.{passes};
 ghost use Rattle.scheme_engine.specs.Taken.{applied_runs, candidate_runs};
 ghost use Rattle.scheme_engine.specs.Outcome.{changes_rows as changes_rows_of};
 ghost use Rattle.scheme_engine.specs.Applying.{IsCandidateOf, next_part, part_of, rows_renewed};
+ghost use Rattle.scheme_engine.specs.InContext.{passes_in};
 
 use crate::cut::Part;
-use crate::pages::{Context, take_row};
+use crate::pages::{ServedScheme, take_row};
 use crate::{Applied, RUNS_PER_ROW};
-use damon_types::{Action, Scheme};
+use damon_types::Action;
 use priority::{Candidate, Candidates};
 use region_list::Regions;
 use scheme_filter::MAX_RUNS;
@@ -21,36 +21,35 @@ use scheme_filter::MAX_RUNS;
 // which all passing pages are taken get age 0, unless the action leaves rows as they are. Returns the last
 // row of which some but not all are taken, if the action changes rows.
 pub(crate) fn apply(
-    scheme: &Scheme,
-    context: &Context,
+    served: &ServedScheme,
     candidates: &Candidates,
     regions: &mut Regions,
     applied: &mut Applied,
 ) -> Option<Part>
-    requires within { AreWithin context.now.space.now regions.old.ranges }
+    requires within { AreWithin served.now.space.now regions.old.ranges }
     requires each { All (IsCandidateOf
-        (passes scheme.now.filters context.now.space.now regions.old.ranges)
+        (passes_in served.now regions.old.ranges)
         (spans regions.old.rows)) candidates.now.list }
     requires room { length applied.old.runs + MAX_RUNS * length candidates.now.list
         ≤ RUNS_PER_ROW * applied.old.cap }
     ensures runs { applied.new ≡ record applied.old {
-      runs = applied.old.runs ++ applied_runs context.now.number
-          (passes scheme.now.filters context.now.space.now regions.old.ranges)
+      runs = applied.old.runs ++ applied_runs served.now.number
+          (passes_in served.now regions.old.ranges)
           (spans regions.old.rows) candidates.now.list;
     } }
     ensures few { length applied.new.runs
         ≤ length applied.old.runs + MAX_RUNS * length candidates.now.list }
     ensures rows { regions.new ≡ record regions.old {
-      rows = fold (rows_renewed scheme.now.action) regions.old.rows candidates.now.list;
+      rows = fold (rows_renewed served.now.scheme.now.action) regions.old.rows candidates.now.list;
     } }
-    ensures part { result ≡ fold (next_part scheme.now.action
-        (passes scheme.now.filters context.now.space.now regions.old.ranges)
+    ensures part { result ≡ fold (next_part served.now.scheme.now.action
+        (passes_in served.now regions.old.ranges)
         (spans regions.old.rows)) None candidates.now.list }
 {
     let mut part = None;
     let mut near = 0;
     for candidate in candidates.as_slice() {
-        let next = apply_to(scheme, context, candidate, &mut near, regions, applied);
+        let next = apply_to(served, candidate, &mut near, regions, applied);
         part = next.or(part);
     }
     part
@@ -59,30 +58,29 @@ pub(crate) fn apply(
 // Applies a scheme to the pages that are taken of one candidate. The row is looked for at the index `near`
 // first, which becomes the one after it.
 fn apply_to(
-    scheme: &Scheme,
-    context: &Context,
+    served: &ServedScheme,
     candidate: &Candidate,
     near: &mut u32,
     regions: &mut Regions,
     applied: &mut Applied,
 ) -> Option<Part>
-    requires within { AreWithin context.now.space.now regions.old.ranges }
+    requires within { AreWithin served.now.space.now regions.old.ranges }
     requires row { IsCandidateOf
-        (passes scheme.now.filters context.now.space.now regions.old.ranges)
+        (passes_in served.now regions.old.ranges)
         (spans regions.old.rows) candidate.now }
     requires room { length applied.old.runs + MAX_RUNS ≤ RUNS_PER_ROW * applied.old.cap }
     ensures runs { applied.new ≡ record applied.old {
-      runs = applied.old.runs ++ candidate_runs context.now.number
-          (passes scheme.now.filters context.now.space.now regions.old.ranges)
+      runs = applied.old.runs ++ candidate_runs served.now.number
+          (passes_in served.now regions.old.ranges)
           (spans regions.old.rows) candidate.now;
     } }
     ensures few { length applied.new.runs ≤ length applied.old.runs + MAX_RUNS }
     ensures rows { regions.new ≡ record regions.old {
-      rows = rows_renewed scheme.now.action regions.old.rows candidate.now;
+      rows = rows_renewed served.now.scheme.now.action regions.old.rows candidate.now;
     } }
     ensures spans { spans regions.new.rows ≡ spans regions.old.rows }
-    ensures part { result ≡ part_of scheme.now.action
-        (passes scheme.now.filters context.now.space.now regions.old.ranges)
+    ensures part { result ≡ part_of served.now.scheme.now.action
+        (passes_in served.now regions.old.ranges)
         (spans regions.old.rows) candidate.now }
 {
     // For its clauses alone: each row lies in a range.
@@ -93,15 +91,13 @@ fn apply_to(
     let index = find_near(regions, *near, candidate.start)?;
     *near = index + 1;
     let row = regions.row(index);
-    let pages = take_row(
-        context,
-        &scheme.filters,
-        regions.ranges(),
-        &row,
+    let pages = take_row(served, regions.ranges(), &row, candidate, applied);
+    renew(
+        served.scheme.action,
         candidate,
-        applied,
-    );
-    renew(scheme.action, candidate, Part { index, pages }, regions)
+        Part { index, pages },
+        regions,
+    )
 }
 
 // The index of the row that holds a page. The row with the index `near` is looked at first: the rows of

@@ -3,15 +3,15 @@ ghost use Rattle.std.specs.Prelude.{◌≡◌, ◌+◌, ◌*◌, ◌≤◌, ◌<
 ghost use Rattle.damon_types.specs.Span.{span_of};
 ghost use Rattle.damon_types.specs.Within.{AreWithin};
 ghost use Rattle.region_list.specs.Tiles.{LiesIn};
-ghost use Rattle.scheme_filter.specs.Passes.{passes};
 ghost use Rattle.scheme_filter.specs.Runs.{run_end};
 ghost use Rattle.scheme_engine.specs.Candidates.{passing_pages};
 ghost use Rattle.scheme_engine.specs.Taken.{applied_run, taken_runs};
 ghost use Rattle.scheme_engine.specs.Outcome.{taken_until};
 ghost use Rattle.scheme_engine.specs.Applying.{end_of_runs, first_pages};
+ghost use Rattle.scheme_engine.specs.InContext.{passes_in};
 
 use crate::{Applied, AppliedRun, RUNS_PER_ROW};
-use damon_types::{Filters, Ranges, Row, Space};
+use damon_types::{Ranges, Row, Scheme, Space};
 use priority::Candidate;
 use scheme_filter::{MAX_RUNS, PassRuns, Run, passing};
 
@@ -28,38 +28,50 @@ pub(crate) struct Context<'a> {
     pub(crate) aggr: u32,
 }
 
+/// The scheme of a slot, with what of the context its pages depend on.
+#[derive(Clone, Copy)]
+pub(crate) struct ServedScheme<'a> {
+    /// The scheme.
+    pub(crate) scheme: &'a Scheme,
+    /// The number of the slot.
+    pub(crate) number: u8,
+    /// The targets.
+    pub(crate) space: &'a Space,
+    /// The number of passes of an aggregation.
+    pub(crate) aggr: u32,
+}
+
 // Appends the runs of the first passing pages of a row, as many as the share of its candidate, which is at
 // least 1. Returns how many pages the row has up to the last one of them.
 pub(crate) fn take_row(
-    context: &Context,
-    filters: &Filters,
+    served: &ServedScheme,
     ranges: &Ranges,
     row: &Row,
     candidate: &Candidate,
     applied: &mut Applied,
 ) -> u32
-    requires within { AreWithin context.now.space.now ranges.now.list }
+    requires within { AreWithin served.now.space.now ranges.now.list }
     requires held { Any (LiesIn (span_of row.now)) ranges.now.list }
     requires some { 1 ≤ candidate.now.share }
     requires share { candidate.now.share ≤ candidate.now.passing }
     requires passing { candidate.now.passing ≡ length
-        (passing_pages (passes filters.now context.now.space.now ranges.now.list)
+        (passing_pages (passes_in served.now ranges.now.list)
         (span_of row.now)) }
     requires room { length applied.old.runs + MAX_RUNS ≤ RUNS_PER_ROW * applied.old.cap }
     ensures runs { applied.new ≡ record applied.old {
-      runs = applied.old.runs ++ map (applied_run context.now.number candidate.now)
-          (taken_runs (passes filters.now context.now.space.now ranges.now.list) candidate.now.share
+      runs = applied.old.runs ++ map (applied_run served.now.number candidate.now)
+          (taken_runs (passes_in served.now ranges.now.list) candidate.now.share
           (span_of row.now));
     } }
     ensures few { length applied.new.runs ≤ length applied.old.runs + MAX_RUNS }
-    ensures pages { result ≡ taken_until (passes filters.now context.now.space.now ranges.now.list)
+    ensures pages { result ≡ taken_until (passes_in served.now ranges.now.list)
         candidate.now.share (span_of row.now) }
     ensures most { result ≤ row.now.pages }
 {
     // Mostly all pages of a row pass: then its first pages are one run, and no filter is looked at.
     if candidate.passing == row.pages {
         applied.push_run(AppliedRun {
-            slot: context.number,
+            slot: served.number,
             target: candidate.target,
             start: row.start,
             pages: candidate.share,
@@ -67,40 +79,39 @@ pub(crate) fn take_row(
         });
         return candidate.share;
     }
-    take_passing(context, filters, ranges, row, candidate, applied)
+    take_passing(served, ranges, row, candidate, applied)
 }
 
 // The same for a row of any pages, whose filters are looked at.
 fn take_passing(
-    context: &Context,
-    filters: &Filters,
+    served: &ServedScheme,
     ranges: &Ranges,
     row: &Row,
     candidate: &Candidate,
     applied: &mut Applied,
 ) -> u32
-    requires within { AreWithin context.now.space.now ranges.now.list }
+    requires within { AreWithin served.now.space.now ranges.now.list }
     requires held { Any (LiesIn (span_of row.now)) ranges.now.list }
     requires some { 1 ≤ candidate.now.share }
     requires share { candidate.now.share ≤ length
-        (passing_pages (passes filters.now context.now.space.now ranges.now.list)
+        (passing_pages (passes_in served.now ranges.now.list)
         (span_of row.now)) }
     requires room { length applied.old.runs + MAX_RUNS ≤ RUNS_PER_ROW * applied.old.cap }
     ensures runs { applied.new ≡ record applied.old {
-      runs = applied.old.runs ++ map (applied_run context.now.number candidate.now)
-          (taken_runs (passes filters.now context.now.space.now ranges.now.list) candidate.now.share
+      runs = applied.old.runs ++ map (applied_run served.now.number candidate.now)
+          (taken_runs (passes_in served.now ranges.now.list) candidate.now.share
           (span_of row.now));
     } }
     ensures few { length applied.new.runs ≤ length applied.old.runs + MAX_RUNS }
-    ensures pages { result ≡ taken_until (passes filters.now context.now.space.now ranges.now.list)
+    ensures pages { result ≡ taken_until (passes_in served.now ranges.now.list)
         candidate.now.share (span_of row.now) }
     ensures most { result ≤ row.now.pages }
 {
     // For its clauses alone: the row ends below page 2^32.
     let _count = ranges.len();
     let mut runs = PassRuns::new();
-    passing(filters, context.space, ranges, row, &mut runs);
-    let end = take_pages(context.number, candidate, runs.as_slice(), applied);
+    passing(&served.scheme.filters, served.space, ranges, row, &mut runs);
+    let end = take_pages(served.number, candidate, runs.as_slice(), applied);
     end - row.start
 }
 

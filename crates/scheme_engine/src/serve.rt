@@ -7,10 +7,9 @@ ghost use Rattle.scheme_engine.specs.InContext.{outcome_in, scheme_served_in, sl
 use crate::apply::apply;
 use crate::candidates::gather;
 use crate::cut::cut_part;
-use crate::pages::Context;
+use crate::pages::{Context, ServedScheme};
 use crate::slot::{SetScheme, Slot};
 use crate::{Applied, RUNS_PER_ROW, SLOTS, SlotChoice};
-use damon_types::Scheme;
 use priority::{Candidates, Chosen};
 use region_list::Regions;
 use scheme_filter::MAX_RUNS;
@@ -104,14 +103,13 @@ fn serve_set(
         return;
     }
     let left = slot.left();
-    let Counts { tried, chosen } = run_scheme(
-        &set.scheme,
-        left,
-        context,
-        candidates,
-        regions,
-        applied,
-    );
+    let served = ServedScheme {
+        scheme: &set.scheme,
+        number: context.number,
+        space: context.space,
+        aggr: context.aggr,
+    };
+    let Counts { tried, chosen } = run_scheme(&served, left, candidates, regions, applied);
     slot.count(tried, chosen.taken, chosen.exceeds);
     applied.push_choice(SlotChoice {
         slot: context.number,
@@ -124,41 +122,40 @@ fn serve_set(
 
 // Runs a scheme, where `left` pages are left of its quota, if it has one.
 fn run_scheme(
-    scheme: &Scheme,
+    served: &ServedScheme,
     left: Option<u64>,
-    context: &Context,
     candidates: &mut Candidates,
     regions: &mut Regions,
     applied: &mut Applied,
 ) -> Counts
-    requires within { AreWithin context.now.space.now regions.old.ranges }
-    requires aggr { 1 ≤ context.now.aggr }
+    requires within { AreWithin served.now.space.now regions.old.ranges }
+    requires aggr { 1 ≤ served.now.aggr }
     requires cap { candidates.old.cap ≡ regions.old.cap }
     requires room { length applied.old.runs + MAX_RUNS * regions.old.cap
         ≤ RUNS_PER_ROW * applied.old.cap }
     ensures runs { applied.new ≡ record applied.old {
-      runs = applied.old.runs ++ (outcome_in context.now scheme.now left regions.old).runs;
+      runs = applied.old.runs ++ (outcome_in served.now left regions.old).runs;
     } }
     ensures few { length applied.new.runs
         ≤ length applied.old.runs + MAX_RUNS * regions.old.cap }
     ensures rows { regions.new ≡ record regions.old {
-      rows = (outcome_in context.now scheme.now left regions.old).rows;
+      rows = (outcome_in served.now left regions.old).rows;
     } }
-    ensures tried { result.tried ≡ (outcome_in context.now scheme.now left regions.old).tried }
+    ensures tried { result.tried ≡ (outcome_in served.now left regions.old).tried }
     ensures taken { result.chosen.taken
-        ≡ (outcome_in context.now scheme.now left regions.old).taken }
+        ≡ (outcome_in served.now left regions.old).taken }
     ensures lowest { result.chosen.lowest
-        ≡ (outcome_in context.now scheme.now left regions.old).lowest }
+        ≡ (outcome_in served.now left regions.old).lowest }
     ensures exceeds { result.chosen.exceeds
-        ≡ (outcome_in context.now scheme.now left regions.old).exceeds }
+        ≡ (outcome_in served.now left regions.old).exceeds }
     ensures within { IfSome left (λ most. result.chosen.taken ≤ most) }
     ensures cap { candidates.new.cap ≡ candidates.old.cap }
 {
     // For its clauses alone: there are at most `cap` rows, and they lie apart.
     let _count = regions.len();
-    let tried = gather(scheme, context, regions, candidates);
+    let tried = gather(served, regions, candidates);
     let chosen = candidates.choose(left);
-    let part = apply(scheme, context, candidates, regions, applied);
+    let part = apply(served, candidates, regions, applied);
     cut_part(part, regions);
     Counts { tried, chosen }
 }

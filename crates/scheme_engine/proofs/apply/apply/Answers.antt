@@ -20,7 +20,7 @@ use Rattle.scheme_engine.proofs.apply.apply.Goals as goal
 
 pub apply_to-next-requires-clause-within : goal.apply_to-next-requires-clause-within
 apply_to-next-requires-clause-within c =
-    subst (λ (r : RegionList). AreWithin c.args.context.now.space.now r.ranges) (sym c.loop-candidate.invariant.rows) c.requires.within
+    subst (λ (r : RegionList). AreWithin c.args.served.now.space.now r.ranges) (sym c.loop-candidate.invariant.rows) c.requires.within
 
 pub apply_to-next-requires-clause-row : goal.apply_to-next-requires-clause-row
 apply_to-next-requires-clause-row c =
@@ -28,7 +28,7 @@ apply_to-next-requires-clause-row c =
     let old = c.args.regions.now in
     let i = c.loop-candidate.candidate-index in
     let now = c.loop-candidate.regions.rows in
-    let test : List Range → ℕ → Bool = λ gs. passes c.args.scheme.now.filters c.args.context.now.space.now gs in
+    let test : List Range → ℕ → Bool = λ gs. passes c.args.served.now.scheme.now.filters c.args.served.now.space.now gs in
     let is = c.as_slice-candidate-items.ensures in
     let within : i < length c.args.candidates.now.list = omega (arith, c.loop-candidate-test.true, ap length is) in
     let one = subst (λ (cs : List Candidate). IsCandidateOf (test old.ranges) (spans old.rows) (get_or cs i no_candidate)) (sym is) (c.requires.each i no_candidate within) in
@@ -55,9 +55,9 @@ loop-candidate-preserved c =
     let list = c.args.candidates.now.list in
     let i = c.loop-candidate.candidate-index in
     let now = c.loop-candidate.regions.rows in
-    let slot = c.args.context.now.number in
-    let action = c.args.scheme.now.action in
-    let test : List Range → ℕ → Bool = λ gs. passes c.args.scheme.now.filters c.args.context.now.space.now gs in
+    let slot = c.args.served.now.number in
+    let action = c.args.served.now.scheme.now.action in
+    let test : List Range → ℕ → Bool = λ gs. passes c.args.served.now.scheme.now.filters c.args.served.now.space.now gs in
     let is = c.as_slice-candidate-items.ensures in
     let within : i < length list = omega (arith, c.loop-candidate-test.true, ap length is) in
     let cand = get_or c.as_slice-candidate-items.result.now i no_candidate in
@@ -87,10 +87,10 @@ returns c =
     let before = c.args.applied.now in
     let list = c.args.candidates.now.list in
     let i = c.loop-candidate.candidate-index in
-    let action = c.args.scheme.now.action in
-    let test : ℕ → Bool = passes c.args.scheme.now.filters c.args.context.now.space.now old.ranges in
+    let action = c.args.served.now.scheme.now.action in
+    let test : ℕ → Bool = passes c.args.served.now.scheme.now.filters c.args.served.now.space.now old.ranges in
     let all : take i list ≡ list = take_all i list (omega (arith, c.loop-candidate-test.false, ap length c.as_slice-candidate-items.ensures)) in
-    let with : List Candidate → AppliedList = λ cs. record before { runs = before.runs ++ applied_runs c.args.context.now.number test (spans old.rows) cs } in
+    let with : List Candidate → AppliedList = λ cs. record before { runs = before.runs ++ applied_runs c.args.served.now.number test (spans old.rows) cs } in
     let put : List Candidate → RegionList = λ cs. record old { rows = fold (rows_renewed action) old.rows cs } in
     record {
       runs = kept.runs ∙ ap with all;

@@ -10,10 +10,10 @@ use Rattle.scheme_engine.proofs.apply.apply.Given as goal
 abbrev pub invariant-loop-candidate : goal.invariant-loop-candidate
 invariant-loop-candidate l = record {
   runs : l.applied ≡ record l.fn.applied {
-    runs = l.fn.applied.runs ++ applied_runs l.context.number (passes l.scheme.filters l.context.space.now l.fn.regions.ranges) (spans l.fn.regions.rows) (take l.candidate-index l.candidates.list);
+    runs = l.fn.applied.runs ++ applied_runs l.served.number (passes l.served.scheme.now.filters l.served.space.now l.fn.regions.ranges) (spans l.fn.regions.rows) (take l.candidate-index l.candidates.list);
   };
   few : length l.applied.runs ≤ length l.fn.applied.runs + MAX_RUNS * l.candidate-index;
-  rows : l.regions ≡ record l.fn.regions { rows = fold (rows_renewed l.scheme.action) l.fn.regions.rows (take l.candidate-index l.candidates.list) };
+  rows : l.regions ≡ record l.fn.regions { rows = fold (rows_renewed l.served.scheme.now.action) l.fn.regions.rows (take l.candidate-index l.candidates.list) };
   places : spans l.regions.rows ≡ spans l.fn.regions.rows;
-  part : l.part ≡ fold (next_part l.scheme.action (passes l.scheme.filters l.context.space.now l.fn.regions.ranges) (spans l.fn.regions.rows)) None (take l.candidate-index l.candidates.list);
+  part : l.part ≡ fold (next_part l.served.scheme.now.action (passes l.served.scheme.now.filters l.served.space.now l.fn.regions.ranges) (spans l.fn.regions.rows)) None (take l.candidate-index l.candidates.list);
 }

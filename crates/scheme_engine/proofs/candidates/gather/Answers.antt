@@ -22,7 +22,7 @@ parts-init c = record {
   list = ap (λ (l : CandidateList). l.list) c.clear.ensures;
   cap = ap (λ (l : CandidateList). l.cap) c.clear.ensures;
   tried = refl;
-  near = c.new-near.ensures c.args.context.now.space.now c.ranges-ranges.result.now.list;
+  near = c.new-near.ensures c.args.served.now.space.now c.ranges-ranges.result.now.list;
   few = omega arith;
 }
 
@@ -31,7 +31,7 @@ add-requires-clause-matching c =
     let rows = c.args.regions.now.rows in
     let from = c.parts.from in
     let n = c.min-to.result - from in
-    let kept = filter (is_match c.args.scheme.now.pattern) (take n (drop from rows)) in
+    let kept = filter (is_match c.args.served.now.scheme.now.pattern) (take n (drop from rows)) in
     let number = c.find_matches-number.result in
     let found = c.find_matches-number.new.found in
     let are = c.find_matches-number.ensures.rows (take n (drop from rows)) no_row (tested_part rows c.rows-rows.result.now.rows _ _ _ from n c.rows-rows.ensures.rows c.pages.ensures c.counts.ensures c.ages.ensures) in
@@ -40,7 +40,7 @@ add-requires-clause-matching c =
     let k = c.loop-k.k in
     let below : get_or found k 0 < n = omega (arith, c.find_matches-number.ensures.within k c.loop-k-test.true, length-take n (drop from c.pages.result.now)) in
     let here : c.at-row.result ≡ get_or kept k no_row = c.at-row.ensures ∙ ap (λ (rs : List Row). get_or rs (from + get_or found k 0) no_row) c.rows-rows.ensures.rows ∙ found_at rows kept from n number found k c.loop-k-test.true room below are in
-    let p = is_match c.args.scheme.now.pattern in
+    let p = is_match c.args.served.now.scheme.now.pattern in
     ap p here ∙ All-get_or (λ x. p x ≡ true) kept k no_row (omega (arith, many, c.loop-k-test.true)) (kept_match p (take n (drop from rows)))
 
 pub add-requires-clause-within : goal.add-requires-clause-within
@@ -63,23 +63,23 @@ add-requires-clause-score c =
     let held = row_held ranges rows i c.len-count.ensures.tiles.within within in
     let some = some_pages ranges (span_of (row_at rows i)) c.len-count.ensures.order held in
     let total : c.max.result ≡ page_total c.ranges-ranges.result.now.list = omega (arith, some, c.max.ensures, c.total.ensures.total, ap page_total c.ranges-ranges.ensures.list) in
-    ap (λ by. score_by by c.at-row.result) c.new-scorer.ensures ∙ ap (λ n. score_of c.at-row.result n c.args.context.now.aggr c.args.scheme.now) total
+    ap (λ by. score_by by c.at-row.result) c.new-scorer.ensures ∙ ap (λ n. score_of c.at-row.result n c.args.served.now.aggr c.args.served.now.scheme.now) total
 
 pub add-requires-clause-room : goal.add-requires-clause-room
 add-requires-clause-room c =
     let rows = c.args.regions.now.rows in
     let from = c.parts.from in
     let n = c.min-to.result - from in
-    let h = candidate_of c.args.context.now.space.now c.args.regions.now.ranges c.args.context.now.aggr c.args.scheme.now in
-    let shown = take (from + c.loop-k.k) (seen (is_match c.args.scheme.now.pattern) rows from n) in
-    omega (arith, length-filter_map h shown, length-take (from + c.loop-k.k) (seen (is_match c.args.scheme.now.pattern) rows from n), ap length c.loop-k.invariant.list, c.loop-k.invariant.cap, c.loop-k-test.true, c.find_matches-number.ensures.few, length-take n (drop from c.pages.result.now), c.min-to.ensures, c.count-in-parts.ensures, ap length c.rows-rows.ensures.rows, c.len-count.ensures.len, c.len-count.ensures.few, c.len-count.ensures.most, c.requires.room)
+    let h = candidate_of c.args.served.now.space.now c.args.regions.now.ranges c.args.served.now.aggr c.args.served.now.scheme.now in
+    let shown = take (from + c.loop-k.k) (seen (is_match c.args.served.now.scheme.now.pattern) rows from n) in
+    omega (arith, length-filter_map h shown, length-take (from + c.loop-k.k) (seen (is_match c.args.served.now.scheme.now.pattern) rows from n), ap length c.loop-k.invariant.list, c.loop-k.invariant.cap, c.loop-k-test.true, c.find_matches-number.ensures.few, length-take n (drop from c.pages.result.now), c.min-to.ensures, c.count-in-parts.ensures, ap length c.rows-rows.ensures.rows, c.len-count.ensures.len, c.len-count.ensures.few, c.len-count.ensures.most, c.requires.room)
 
 pub add-requires-clause-distinct : goal.add-requires-clause-distinct
 add-requires-clause-distinct c =
     let rows = c.args.regions.now.rows in
     let from = c.parts.from in
     let n = c.min-to.result - from in
-    let kept = filter (is_match c.args.scheme.now.pattern) (take n (drop from rows)) in
+    let kept = filter (is_match c.args.served.now.scheme.now.pattern) (take n (drop from rows)) in
     let number = c.find_matches-number.result in
     let found = c.find_matches-number.new.found in
     let are = c.find_matches-number.ensures.rows (take n (drop from rows)) no_row (tested_part rows c.rows-rows.result.now.rows _ _ _ from n c.rows-rows.ensures.rows c.pages.ensures c.counts.ensures c.ages.ensures) in
@@ -88,9 +88,9 @@ add-requires-clause-distinct c =
     let k = c.loop-k.k in
     let below : get_or found k 0 < n = omega (arith, c.find_matches-number.ensures.within k c.loop-k-test.true, length-take n (drop from c.pages.result.now)) in
     let here : c.at-row.result ≡ get_or kept k no_row = c.at-row.ensures ∙ ap (λ (rs : List Row). get_or rs (from + get_or found k 0) no_row) c.rows-rows.ensures.rows ∙ found_at rows kept from n number found k c.loop-k-test.true room below are in
-    let p = is_match c.args.scheme.now.pattern in
+    let p = is_match c.args.served.now.scheme.now.pattern in
     let there : c.at-row.result ≡ get_or (seen p rows from n) (from + k) no_row = here ∙ sym (seen_at p rows from n k no_row c.parts.invariant.within) in
-    let before = start_before c.args.context.now.space.now c.args.regions.now.ranges c.args.context.now.aggr c.args.scheme.now 0 (seen p rows from n) (from + k) no_row (seen_rise p 0 from n rows c.len-count.ensures.tiles.rise) (omega (arith, length-seen p rows from n c.parts.invariant.within, many, c.loop-k-test.true)) in
+    let before = start_before c.args.served.now.space.now c.args.regions.now.ranges c.args.served.now.aggr c.args.served.now.scheme.now 0 (seen p rows from n) (from + k) no_row (seen_rise p 0 from n rows c.len-count.ensures.tiles.rise) (omega (arith, length-seen p rows from n c.parts.invariant.within, many, c.loop-k-test.true)) in
     rw (there, c.loop-k.invariant.list) before
 
 pub loop-k-preserved : goal.loop-k-preserved
@@ -98,7 +98,7 @@ loop-k-preserved c =
     let rows = c.args.regions.now.rows in
     let from = c.parts.from in
     let n = c.min-to.result - from in
-    let kept = filter (is_match c.args.scheme.now.pattern) (take n (drop from rows)) in
+    let kept = filter (is_match c.args.served.now.scheme.now.pattern) (take n (drop from rows)) in
     let number = c.find_matches-number.result in
     let found = c.find_matches-number.new.found in
     let are = c.find_matches-number.ensures.rows (take n (drop from rows)) no_row (tested_part rows c.rows-rows.result.now.rows _ _ _ from n c.rows-rows.ensures.rows c.pages.ensures c.counts.ensures c.ages.ensures) in
@@ -107,11 +107,11 @@ loop-k-preserved c =
     let k = c.loop-k.k in
     let below : get_or found k 0 < n = omega (arith, c.find_matches-number.ensures.within k c.loop-k-test.true, length-take n (drop from c.pages.result.now)) in
     let here : c.at-row.result ≡ get_or kept k no_row = c.at-row.ensures ∙ ap (λ (rs : List Row). get_or rs (from + get_or found k 0) no_row) c.rows-rows.ensures.rows ∙ found_at rows kept from n number found k c.loop-k-test.true room below are in
-    let p = is_match c.args.scheme.now.pattern in
-    let space = c.args.context.now.space.now in
+    let p = is_match c.args.served.now.scheme.now.pattern in
+    let space = c.args.served.now.space.now in
     let ranges = c.args.regions.now.ranges in
-    let aggr = c.args.context.now.aggr in
-    let scheme = c.args.scheme.now in
+    let aggr = c.args.served.now.aggr in
+    let scheme = c.args.served.now.scheme.now in
     let h = candidate_of space ranges aggr scheme in
     let all = seen p rows from n in
     let there : c.at-row.result ≡ get_or all (from + k) no_row = here ∙ sym (seen_at p rows from n k no_row c.parts.invariant.within) in
@@ -134,17 +134,17 @@ parts-preserved c =
     let rows = c.args.regions.now.rows in
     let from = c.parts.from in
     let n = c.min-to.result - from in
-    let kept = filter (is_match c.args.scheme.now.pattern) (take n (drop from rows)) in
+    let kept = filter (is_match c.args.served.now.scheme.now.pattern) (take n (drop from rows)) in
     let number = c.find_matches-number.result in
     let found = c.find_matches-number.new.found in
     let are = c.find_matches-number.ensures.rows (take n (drop from rows)) no_row (tested_part rows c.rows-rows.result.now.rows _ _ _ from n c.rows-rows.ensures.rows c.pages.ensures c.counts.ensures c.ages.ensures) in
     let room : number ≤ length found = omega (arith, c.find_matches-number.ensures.few, c.find_matches-number.array_long, c.min-to.ensures, length-take n (drop from c.pages.result.now)) in
     let many : length kept ≡ number = length-found (take n (drop from rows)) kept found number room are in
-    let p = is_match c.args.scheme.now.pattern in
-    let space = c.args.context.now.space.now in
+    let p = is_match c.args.served.now.scheme.now.pattern in
+    let space = c.args.served.now.space.now in
     let ranges = c.args.regions.now.ranges in
-    let aggr = c.args.context.now.aggr in
-    let scheme = c.args.scheme.now in
+    let aggr = c.args.served.now.aggr in
+    let scheme = c.args.served.now.scheme.now in
     let all = seen p rows from n in
     let whole : length all ≤ from + c.loop-k.k = omega (arith, length-seen p rows from n c.parts.invariant.within, many, c.loop-k-test.false) in
     let end : from + n ≡ c.min-to.result = omega (arith, c.min-to.ensures, c.parts-test.true, c.count.ensures, c.count-in-parts.ensures) in

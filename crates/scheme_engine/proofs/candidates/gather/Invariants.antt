@@ -10,10 +10,10 @@ abbrev pub invariant-parts : goal.invariant-parts
 invariant-parts l = record {
   within : l.from ≤ length l.regions.rows;
   long : length l.found ≡ 64;
-  list : l.candidates.list ≡ candidates_of l.context.space.now l.regions.ranges l.context.aggr l.scheme (take l.from l.regions.rows);
+  list : l.candidates.list ≡ candidates_of l.served.space.now l.regions.ranges l.served.aggr l.served.scheme.now (take l.from l.regions.rows);
   cap : l.candidates.cap ≡ l.fn.candidates.cap;
-  tried : l.tried ≡ matching_rows l.scheme (take l.from l.regions.rows);
-  near : AreRunsOf (passes l.scheme.filters l.context.space.now l.ranges.list) l.near;
+  tried : l.tried ≡ matching_rows l.served.scheme.now (take l.from l.regions.rows);
+  near : AreRunsOf (passes l.served.scheme.now.filters l.served.space.now l.scoring.ranges.now.list) l.near;
   few : l.tried ≤ l.from;
 }
 
@@ -22,7 +22,7 @@ decreases-parts l = length l.regions.rows - l.from
 
 abbrev pub invariant-loop-k : goal.invariant-loop-k
 invariant-loop-k l = record {
-  list : l.candidates.list ≡ candidates_of l.context.space.now l.regions.ranges l.context.aggr l.scheme (take (l.from + l.k) (seen (is_match l.scheme.pattern) l.regions.rows l.from (l.to - l.from)));
+  list : l.candidates.list ≡ candidates_of l.served.space.now l.regions.ranges l.served.aggr l.served.scheme.now (take (l.from + l.k) (seen (is_match l.served.scheme.now.pattern) l.regions.rows l.from (l.to - l.from)));
   cap : l.candidates.cap ≡ l.fn.candidates.cap;
-  near : AreRunsOf (passes l.scheme.filters l.context.space.now l.ranges.list) l.near;
+  near : AreRunsOf (passes l.served.scheme.now.filters l.served.space.now l.scoring.ranges.now.list) l.near;
 }

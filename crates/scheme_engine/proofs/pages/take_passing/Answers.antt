@@ -23,7 +23,7 @@ take_pages-end-requires-clause-ends c =
 
 pub overflow_sub-result : goal.overflow_sub-result
 overflow_sub-result c =
-    let p = passes c.args.filters.now c.args.context.now.space.now c.args.ranges.now.list in
+    let p = passes c.args.served.now.scheme.now.filters c.args.served.now.space.now c.args.ranges.now.list in
     let r = c.args.row.now in
     let cand = c.args.candidate.now in
     let runs = c.as_slice.ensures.items ∙ c.passing.ensures.exact in
@@ -33,7 +33,7 @@ overflow_sub-result c =
 
 pub returns : goal.returns
 returns c =
-    let p = passes c.args.filters.now c.args.context.now.space.now c.args.ranges.now.list in
+    let p = passes c.args.served.now.scheme.now.filters c.args.served.now.space.now c.args.ranges.now.list in
     let r = c.args.row.now in
     let cand = c.args.candidate.now in
     let old = c.args.applied.now in
@@ -42,12 +42,12 @@ returns c =
     let are : first_pages cand.share c.as_slice.result.now ≡ taken_runs p cand.share (span_of r) = ap (first_pages cand.share) runs ∙ sym (taken_are_first p cand.share r.start r.pages) in
     let end = c.take_pages-end.ensures.end ∙ ap (λ rs. end_of_runs (first_pages cand.share rs)) runs ∙ end_is p cand r in
     let within = cut_within p cand.share (span_of r) c.requires.some c.requires.share in
-    let with : List Run → AppliedList = λ rs. record old { runs = old.runs ++ map (applied_run c.args.context.now.number cand) rs } in
-    let pushed : List AppliedRun = map (applied_run c.args.context.now.number cand) (first_pages cand.share c.as_slice.result.now) in
+    let with : List Run → AppliedList = λ rs. record old { runs = old.runs ++ map (applied_run c.args.served.now.number cand) rs } in
+    let pushed : List AppliedRun = map (applied_run c.args.served.now.number cand) (first_pages cand.share c.as_slice.result.now) in
     let few = length-first_pages cand.share c.as_slice.result.now in
     record {
       runs = now ∙ ap with are;
-      few = omega (arith, ap (λ (a : AppliedList). length a.runs) now, length-append old.runs pushed, length-map (first_pages cand.share c.as_slice.result.now) (applied_run c.args.context.now.number cand), few, c.as_slice.ensures.most);
+      few = omega (arith, ap (λ (a : AppliedList). length a.runs) now, length-append old.runs pushed, length-map (first_pages cand.share c.as_slice.result.now) (applied_run c.args.served.now.number cand), few, c.as_slice.ensures.most);
       pages = ap (λ n. n - r.start) end;
       most = omega (arith, end, within.1);
     }

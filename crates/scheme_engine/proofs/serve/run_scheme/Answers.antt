@@ -22,30 +22,30 @@ use Rattle.scheme_engine.proofs.serve.run_scheme.Goals as goal
 pub apply-part-requires-clause-each : goal.apply-part-requires-clause-each
 apply-part-requires-clause-each c =
     let old = c.args.regions.now in
-    let space = c.args.context.now.space.now in
-    let scheme = c.args.scheme.now in
-    let all = chosen_of space c.args.context.now.aggr scheme c.args.left old in
+    let space = c.args.served.now.space.now in
+    let scheme = c.args.served.now.scheme.now in
+    let all = chosen_of space c.args.served.now.aggr scheme c.args.left old in
     let tiled : AreTiled old = record { unit = c.len-count.ensures.unit; order = c.len-count.ensures.order; tiling = c.len-count.ensures.tiling; few = omega (arith, c.len-count.ensures.len, c.len-count.ensures.few) } in
     let gathered = ap (λ (l : CandidateList). l.list) c.gather-tried.ensures.list in
-    let chosen = is_chosen space c.args.context.now.aggr scheme c.args.left old tiled c.gather-tried.new.candidates.list c.choose-chosen.new.self.list gathered c.choose-chosen.ensures.list in
+    let chosen = is_chosen space c.args.served.now.aggr scheme c.args.left old tiled c.gather-tried.new.candidates.list c.choose-chosen.new.self.list gathered c.choose-chosen.ensures.list in
     chosen_each (passes scheme.filters space old.ranges) old.rows all c.choose-chosen.new.self.list chosen
 
 pub apply-part-requires-clause-room : goal.apply-part-requires-clause-room
 apply-part-requires-clause-room c =
     let old = c.args.regions.now in
-    let h = candidate_of c.args.context.now.space.now old.ranges c.args.context.now.aggr c.args.scheme.now in
+    let h = candidate_of c.args.served.now.space.now old.ranges c.args.served.now.aggr c.args.served.now.scheme.now in
     let gathered = ap (λ (l : CandidateList). length l.list) c.gather-tried.ensures.list in
     omega (arith, length-filter_map h old.rows, gathered, c.choose-chosen.ensures.len, c.len-count.ensures.len, c.len-count.ensures.few, c.len-count.ensures.most, c.requires.room)
 
 pub cut_part-requires : goal.cut_part-requires
 cut_part-requires c =
     let old = c.args.regions.now in
-    let space = c.args.context.now.space.now in
-    let scheme = c.args.scheme.now in
-    let all = chosen_of space c.args.context.now.aggr scheme c.args.left old in
+    let space = c.args.served.now.space.now in
+    let scheme = c.args.served.now.scheme.now in
+    let all = chosen_of space c.args.served.now.aggr scheme c.args.left old in
     let tiled : AreTiled old = record { unit = c.len-count.ensures.unit; order = c.len-count.ensures.order; tiling = c.len-count.ensures.tiling; few = omega (arith, c.len-count.ensures.len, c.len-count.ensures.few) } in
     let gathered = ap (λ (l : CandidateList). l.list) c.gather-tried.ensures.list in
-    let chosen = is_chosen space c.args.context.now.aggr scheme c.args.left old tiled c.gather-tried.new.candidates.list c.choose-chosen.new.self.list gathered c.choose-chosen.ensures.list in
+    let chosen = is_chosen space c.args.served.now.aggr scheme c.args.left old tiled c.gather-tried.new.candidates.list c.choose-chosen.new.self.list gathered c.choose-chosen.ensures.list in
     subst (λ (r : RegionList). IfSome c.apply-part.result (IsPartOf r.rows)) (sym c.apply-part.ensures.rows)
     (chosen_part_fits scheme.action (passes scheme.filters space old.ranges) old.rows all c.choose-chosen.new.self.list c.apply-part.result chosen c.apply-part.ensures.part)
 
@@ -53,9 +53,9 @@ pub returns : goal.returns
 returns c =
     let old = c.args.regions.now in
     let applied = c.args.applied.now in
-    let space = c.args.context.now.space.now in
-    let aggr = c.args.context.now.aggr in
-    let scheme = c.args.scheme.now in
+    let space = c.args.served.now.space.now in
+    let aggr = c.args.served.now.aggr in
+    let scheme = c.args.served.now.scheme.now in
     let left = c.args.left in
     let test = passes scheme.filters space old.ranges in
     let all = chosen_of space aggr scheme left old in
@@ -72,7 +72,7 @@ returns c =
     let rows : List Row → RegionList = λ rs. record old { rows = rs } in
     let cut : RegionList → RegionList = λ r. record r { rows = option_map_or (rows_cut r) c.apply-part.result r.rows } in
     record {
-      runs = c.apply-part.ensures.runs ∙ ap runs (chosen_runs c.args.context.now.number test old.rows all list chosen);
+      runs = c.apply-part.ensures.runs ∙ ap runs (chosen_runs c.args.served.now.number test old.rows all list chosen);
       few = omega (arith, length-filter_map (candidate_of space old.ranges aggr scheme) old.rows, few, told.len, c.len-count.ensures.len, c.len-count.ensures.few, c.len-count.ensures.most, c.apply-part.ensures.few);
       rows = c.cut_part.ensures ∙ ap cut c.apply-part.ensures.rows ∙ ap rows (chosen_after scheme.action test old all list c.apply-part.result chosen c.apply-part.ensures.part);
       tried = c.gather-tried.ensures.tried;
