@@ -7,7 +7,6 @@ ghost use Rattle.damon_core.specs.Stands.{Stands};
 ghost use Rattle.damon_control.specs.LiveText.{KeepsLimits};
 ghost use Rattle.damon_control.specs.LiveView.{live_said};
 ghost use Rattle.damon_control.specs.Script.{live_of};
-ghost use Rattle.damon_control.specs.Sound.{SpellsCalls};
 ghost use Rattle.text_io.specs.Given.{GaveOver};
 ghost use Rattle.text_io.specs.Taken.{WritesPart};
 ghost use Rattle.run_journal.specs.Lawful.{all_of, receipts_said};
@@ -199,7 +198,6 @@ fn carry_out<R: Threads + Wait + Sync, S: Source, P: Pace + Sync>(
         (record { bytes = S.left source.new; calls = S.calls source.new })
         (live_said run.script)) }
     ensures few { IfOk result (λ run. most_results (live_said run.script) ≤ MAX_RESULTS) }
-    ensures spelled { IfOk result (λ run. SpellsCalls (live_said run.script)) }
     ensures run { IfOk result (λ run.
         IsWholeRun (live_said run.script) run.journal.value (receipts_said run.receipts)) }
     ensures stands { IfOk result (λ run.
@@ -225,7 +223,6 @@ fn take_script<S: Source>(alloc: Global, source: &mut S) -> Result<LiveScript, S
     ensures limits { IfOk result (λ script. KeepsLimits (live_said script)) }
     ensures pages { IfOk result (λ script. TracesAreInSpace script) }
     ensures few { IfOk result (λ script. most_results (live_said script) ≤ MAX_RESULTS) }
-    ensures spelled { IfOk result (λ script. SpellsCalls (live_said script)) }
     ensures refused { IfErr result (IsRefused INPUT_LIMIT
         (record { bytes = S.left source.old; calls = S.calls source.old })
         (record { bytes = S.left source.new; calls = S.calls source.new })) }
@@ -259,7 +256,6 @@ fn hand_over<K: Sink>(alloc: Global, run: &AloneRun, sink: &mut K) -> Result<(),
     requires stands { Stands run.now.monitor (replay (live_said run.now.script) run.now.journal.value).state }
     requires sizes { run.now.journal.checked
         ≡ check_sizes (live_said run.now.script) run.now.journal.value }
-    requires spelled { SpellsCalls (live_said run.now.script) }
     ensures all { OnOk result (Appends (K.taken sink.old) (K.taken sink.new)
         (journal_text (live_said run.now.script) run.now.journal.value (receipts_said run.now.receipts))) }
     ensures answers { IfErr result EndsRun }

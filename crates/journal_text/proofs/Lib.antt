@@ -2,7 +2,6 @@ pub mod Digits
 pub mod Appended
 pub mod SeenGroups
 pub mod SeenText
-pub mod SpelledCalls
 pub mod EntriesText
 pub mod LeftText
 pub mod LongerLines

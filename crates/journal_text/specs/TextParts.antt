@@ -6,7 +6,6 @@ use Rattle.script_lines.specs.Lines.{lines_text}
 use Rattle.damon_core.specs.Stands.{Stands}
 use Rattle.damon_control.specs.Live.{LiveValue}
 use Rattle.damon_control.specs.LiveView.{live_said}
-use Rattle.damon_control.specs.Sound.{SpellsCalls}
 use Rattle.run_journal.specs.declared.entry.Receipt.{Receipt}
 use Rattle.run_journal.specs.declared.results.Results.{Results}
 use Rattle.journal_text.specs.declared.text_parts.Part.{Part}
@@ -48,12 +47,11 @@ abbrev pub text_left : Recorded → Part → List ℕ
 text_left run End = []
 text_left run part = lines_text (lines_from (live_said run.script.now) run.journal.now.value (receipts_said run.receipts.now) part) ++ last_text (replay (live_said run.script.now) run.journal.now.value).state
 
--- What the text of a recorded run needs: its monitor stands where the journal leads to, and the script and the receipts can be spelled.
+-- What the text of a recorded run needs: its monitor stands where the journal leads to, and its receipts are of pages of the space.
 pub record IsRecorded (run : Recorded) : Type 0 where
   pub sizes : run.journal.now.checked ≡ check_sizes (live_said run.script.now) run.journal.now.value
   pub stands : Stands run.monitor.now (replay (live_said run.script.now) run.journal.now.value).state
   pub pages : AllByRecursion (λ r. r.page < pages_of run.script.now.setup.space) (all_of (receipts_said run.receipts.now))
-  pub ranges : SpellsCalls (live_said run.script.now)
 
 -- the results that stand beside a place are those of the entries from this index on
 pub record AreResultsOf (v : LiveValue) (j : JournalValue) (next : ℕ) (results : Results) : Type 0 where

@@ -6,7 +6,6 @@ ghost use Rattle.script_lines.specs.Lines.{lines_text};
 ghost use Rattle.damon_control.specs.LiveView.{call_value, calls_of, live_said};
 ghost use Rattle.run_journal.specs.Replay.{call_at};
 ghost use Rattle.journal_text.specs.Spelled.{answer_said, answered_lines, bit_digit, call_front, call_lines, spelled_answer, spelled_check};
-ghost use Rattle.damon_control.specs.Sound.{IsSpelledCall, SpellsCalls};
 ghost use Rattle.run_journal.specs.Results.{loads_in};
 ghost use Rattle.journal_text.specs.Text.{entry_lines};
 
@@ -29,7 +28,6 @@ pub(crate) fn write_entry(
     entry: &Entry,
     loaded: LoadRun<'_>,
 ) -> Result<(), AllocError>
-    requires { SpellsCalls (live_said script.now) }
     ensures ok { OnOk result (out.new.items ≡ out.old.items
         ++ lines_text (entry_lines (live_said script.now) (loads_in loaded.entry) entry.now)) }
     ensures kept { KeepsFront out.old.items out.new.items }
@@ -105,7 +103,6 @@ fn write_call(
     index: u32,
     answer: CallAnswer,
 ) -> Result<(), AllocError>
-    requires { SpellsCalls (live_said script.now) }
     ensures ok { OnOk result (out.new.items ≡ out.old.items
         ++ lines_text (answered_lines controller index answer
         (call_at (live_said script.now) controller index))) }
@@ -137,7 +134,6 @@ fn write_asked(
     index: u32,
     call: &Call,
 ) -> Result<(), AllocError>
-    requires { IsSpelledCall (call_value call.now) }
     ensures ok { OnOk result (out.new.items ≡ out.old.items
         ++ lines_text (call_lines controller index (call_value call.now))) }
     ensures kept { KeepsFront out.old.items out.new.items }

@@ -5,7 +5,6 @@ ghost use Rattle.damon_types.specs.Space.{pages_of};
 ghost use Rattle.line_text.specs.Appended.{KeepsFront};
 ghost use Rattle.damon_core.specs.Stands.{Stands};
 ghost use Rattle.damon_control.specs.LiveView.{live_said};
-ghost use Rattle.damon_control.specs.Sound.{SpellsCalls};
 ghost use Rattle.run_journal.specs.Lawful.{all_of, receipts_said};
 ghost use Rattle.run_journal.specs.Replay.{check_sizes, replay};
 ghost use Rattle.journal_text.specs.Text.{journal_text};
@@ -21,8 +20,8 @@ use std::alloc::{AllocError, Global};
 /// Appends the text of a journal: its first line, which says the version; the setup of the script; the
 /// entries in order, each check with its results and each call with its answer; the receipts of each
 /// worker; and what is shown of the monitor at the end, which is in the state that the journal's replay
-/// gives. The page of each receipt is a page of the script's space, and no commit of the script has an
-/// empty list of ranges, which no text spells. When out of memory, nothing is appended.
+/// gives. The page of each receipt is a page of the script's space. Of a commit with an empty list of
+/// ranges, which no text spells, the list is left out. When out of memory, nothing is appended.
 pub fn journal_text(
     alloc: Global,
     out: &mut Vec<u8>,
@@ -35,7 +34,6 @@ pub fn journal_text(
     requires stands { Stands monitor.now (replay (live_said script.now) journal.now.value).state }
     requires pages { AllByRecursion (λ r. r.page < pages_of script.now.setup.space)
         (all_of (receipts_said receipts.now)) }
-    requires ranges { SpellsCalls (live_said script.now) }
     ensures ok { OnOk result (out.new.items ≡ out.old.items
         ++ journal_text (live_said script.now) journal.now.value (receipts_said receipts.now)) }
     ensures err { OnErr result (out.new.items ≡ out.old.items) }

@@ -5,7 +5,6 @@ ghost use Rattle.damon_types.specs.Space.{pages_of};
 ghost use Rattle.line_text.specs.Appended.{KeepsFront};
 ghost use Rattle.damon_core.specs.Stands.{Stands};
 ghost use Rattle.damon_control.specs.LiveView.{live_said};
-ghost use Rattle.damon_control.specs.Sound.{SpellsCalls};
 ghost use Rattle.run_journal.specs.Lawful.{all_of, receipts_said};
 ghost use Rattle.run_journal.specs.Replay.{check_sizes, replay};
 ghost use Rattle.journal_text.specs.Text.{journal_text};
@@ -67,8 +66,8 @@ impl<'a> Model for TextParts<'a> {
 
 impl<'a> TextParts<'a> {
     /// All of the text that [`journal_text`](crate::journal_text) appends, of which nothing is given yet. As
-    /// there, the monitor is in the state that the journal's replay gives, the page of each receipt is a
-    /// page of the script's space, and no commit of the script has an empty list of ranges. Takes no memory.
+    /// there, the monitor is in the state that the journal's replay gives, and the page of each receipt is a
+    /// page of the script's space. Takes no memory.
     pub fn new(
         script: &'a LiveScript,
         journal: &'a Journal,
@@ -79,7 +78,6 @@ impl<'a> TextParts<'a> {
         requires stands { Stands monitor.now (replay (live_said script.now) journal.now.value).state }
         requires pages { AllByRecursion (λ r. r.page < pages_of script.now.setup.space)
             (all_of (receipts_said receipts.now)) }
-        requires ranges { SpellsCalls (live_said script.now) }
         ensures { result ≡ journal_text (live_said script.now) journal.now.value
             (receipts_said receipts.now) }
     {

@@ -50,7 +50,3 @@ returns-clause-taken g c =
       reads = EndsAtFault-not (λ e. cc e) (λ no. no) read.reads;
       calls = read.calls;
     }
-
-pub returns-clause-spelled : goal.returns-clause-spelled
-returns-clause-spelled g c =
-    (c.live_scripts_are_sound.ensures.sound c.in_ok-bytes.bytes.items (live_said c.in_ok-script.script) (ap live_of (sym c.deref.ensures.value) ∙ c.in_ok-script.ensures.script)).spelled

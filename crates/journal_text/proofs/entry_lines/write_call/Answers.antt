@@ -1,16 +1,11 @@
-use Rattle.std.proofs.Common.{◌≡◌, ◌∙◌, ◌++◌, ◌∷◌, [], ap, sym}
+use Rattle.std.proofs.Common.{◌≡◌, ◌∙◌, ◌++◌, ◌∷◌, [], ap}
 use Rattle.std.proofs.lemmas.Result.{IfOk-equal}
 use Rattle.script_lines.specs.Lines.{lines_text}
-use Rattle.damon_control.specs.LiveView.{call_value, calls_of, live_said}
+use Rattle.damon_control.specs.LiveView.{call_value, live_said}
 use Rattle.run_journal.specs.Replay.{call_at}
 use Rattle.journal_text.specs.Spelled.{answered_lines, call_lines, spelled_answer}
 use Rattle.journal_text.proofs.Appended.{lines_added}
-use Rattle.journal_text.proofs.SpelledCalls.{spelled_at}
 use Rattle.journal_text.proofs.entry_lines.write_call.Goals as goal
-
-pub write_asked-requires : goal.write_asked-requires
-write_asked-requires c =
-    spelled_at (calls_of c.args.script.now.controllers.list) c.args.controller c.args.index (call_value c.in-Some.call.now) c.requires (sym c.in-Some.ensures)
 
 pub returns-in_ok-write_asked-in-Some-clause-ok : goal.returns-in_ok-write_asked-in-Some-clause-ok
 returns-in_ok-write_asked-in-Some-clause-ok c =
