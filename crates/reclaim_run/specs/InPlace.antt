@@ -1,5 +1,6 @@
 -- What proactive reclaim adds, it adds directly after aggregations.
 use Rattle.std.specs.Prelude.{◌≡◌, [], refl}
+use Rattle.damon_core.specs.After.{after}
 use Rattle.damon_core.specs.Event.{Event, touch, prepare, clear, load, observe, aggregate, commit, show}
 use Rattle.damon_core.specs.State.{State}
 use Rattle.script_run.specs.Callbacks.{AddInPlace, IsAlone, IsQuiet}
@@ -28,6 +29,6 @@ line_in_place s show quiet = refl
 pub reclaim_in_place : AddInPlace reclaim_callbacks
 reclaim_in_place = record {
   keeps = λ memory s e alone. refl;
-  puts = λ memory s e alone. share_in_place s e alone;
+  puts = λ memory s e alone. share_in_place (after s e) e alone;
   writes = λ memory s e quiet. line_in_place s e quiet;
 }

@@ -3,6 +3,7 @@ use Rattle.std.specs.Prelude.{ℕ, ◌*◌, ◌/◌, not, List, [], ◌∷◌, c
 use Rattle.std.specs.Fmt.{decimal}
 use Rattle.damon_types.specs.Space.{pages_of}
 use Rattle.live_commit.specs.Commit.{CommitValue}
+use Rattle.damon_core.specs.After.{after}
 use Rattle.damon_core.specs.Event.{Event, aggregate, commit}
 use Rattle.damon_core.specs.State.{State}
 use Rattle.snapshot_print.specs.Lines.{as_text}
@@ -76,7 +77,7 @@ abbrev pub reclaim_callbacks : Callbacks
 reclaim_callbacks = record {
   first = λ s. [];
   keeps = λ memory s e. memory;
-  puts = λ memory s e. share_after s e;
+  puts = λ memory s e. share_after (after s e) e;
   writes = λ memory s e. line_after s e;
   ends = λ memory s. line_in s;
 }

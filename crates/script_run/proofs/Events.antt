@@ -13,7 +13,7 @@ use Rattle.damon_world.specs.Moment.{along, event_in, events_of_steps, Moment, m
 use Rattle.damon_world.specs.Advance.{IsAmid}
 use Rattle.damon_world.specs.Touches.{touches}
 use Rattle.snapshot_print.specs.Writing.{Writing}
-use Rattle.script_run.specs.Callbacks.{AddInPlace, Callbacks, IsAlone, IsQuiet, IsStep, put_after, remembered}
+use Rattle.script_run.specs.Callbacks.{AddInPlace, Callbacks, IsAlone, IsQuiet, IsStep, put_after}
 use Rattle.script_run.specs.Course.{Course, course_after, going_with, with_puts}
 use Rattle.script_run.specs.Going.{onward}
 use Rattle.script_run.proofs.Continuing.{onward-append}
@@ -128,12 +128,12 @@ course_of m memory = record { moment = m; memory = memory }
 
 module _ (c : Callbacks) (in_place : AddInPlace c) where
   nothing_put : (r : Course) (e : Event) → IsAlone e → put_after c r.memory r.moment.state e ≡ []
-  nothing_put r e alone = in_place.puts (remembered c r.memory r.moment.state e) (after r.moment.state e) e alone
+  nothing_put r e alone = in_place.puts (c.keeps r.memory r.moment.state e) r.moment.state e alone
 
   alone_after : (r : Course) (e : Event) → IsAlone e → course_after c r e ≡ beyond r (e ∷ [])
   alone_after r e alone =
-      ap (λ (ps : List Event). course_of (along r.moment (e ∷ ps)) (remembered c r.memory r.moment.state e)) (nothing_put r e alone)
-      ∙ ap (λ (memory : List ℕ). course_of (along r.moment (e ∷ [])) memory) (in_place.keeps r.memory (after r.moment.state e) e alone)
+      ap (λ (ps : List Event). course_of (along r.moment (e ∷ ps)) (c.keeps r.memory r.moment.state e)) (nothing_put r e alone)
+      ∙ ap (λ (memory : List ℕ). course_of (along r.moment (e ∷ [])) memory) (in_place.keeps r.memory r.moment.state e alone)
 
   pub alone_onward : (r : Course) (es : List Event) → AllByRecursion IsAlone es → onward (going_with c) r es ≡ beyond r es
   alone_onward r [] alone = refl
@@ -153,7 +153,7 @@ module _ (c : Callbacks) (in_place : AddInPlace c) where
       let s = r.moment.state in
       let more = events_text writing (after s e) (put_after c r.memory s e) ++ rest in
       ap (λ t. t ++ (lines_after c r e ++ more)) none
-      ∙ ap (λ t. t ++ more) (in_place.writes (remembered c r.memory s e) (after s e) e quiet)
+      ∙ ap (λ t. t ++ more) (in_place.writes (c.keeps r.memory s e) (after s e) e quiet)
       ∙ ap (λ ps. events_text writing (after s e) ps ++ rest) (nothing_put r e alone)
 
   -- steps write nothing, where no aggregation is due

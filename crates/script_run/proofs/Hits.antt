@@ -1,14 +1,9 @@
 -- The results of loads among the events of a script are those of their pages.
-use Rattle.std.proofs.Common.{Bool, true, false, List, [], ◌∷◌, ◌++◌, refl, cond}
-use Rattle.std.specs.Prelude.{◌==◌}
-use Rattle.rand_core.specs.Stream.{Stream}
-use Rattle.live_commit.specs.declared.phase.Phase.{Phase}
-use Rattle.live_commit.specs.declared.phase.Phase.TheVariants.{Idle, Clearing, Armed, Checking, Void, Due}
-use Rattle.damon_core.specs.State.{State, row_count}
-use Rattle.damon_core.specs.Event.{ByHit, Event, load, next_hit, observe}
+use Rattle.std.proofs.Common.{List, [], ◌∷◌, ◌++◌}
+use Rattle.damon_core.specs.State.{State}
+use Rattle.damon_core.specs.Event.{Event}
 use Rattle.damon_core.specs.After.{after}
-use Rattle.damon_core.specs.Reached.{AllByHit, run}
-use Rattle.damon_world.specs.Moment.{event_in}
+use Rattle.damon_core.specs.Reached.{AllByHit}
 
 -- a prefix of events with true results
 pub AllByHit-prefix : (s : State) (es fs : List Event) → AllByHit s (es ++ fs) → AllByHit s es

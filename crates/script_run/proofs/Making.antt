@@ -20,7 +20,7 @@ use Rattle.damon_world.specs.Stands.{StandsFor, WorldView}
 use Rattle.snapshot_print.specs.Writing.{Writing}
 use Rattle.snapshot_print.specs.Printed.{printed_monitor, printed_state}
 use Rattle.snapshot_print.proofs.Lemmas.{printed_monitor-stands}
-use Rattle.script_run.specs.Callbacks.{AddInPlace, Callbacks, IsAlone, put_after, remembered}
+use Rattle.script_run.specs.Callbacks.{AddInPlace, Callbacks, IsAlone, put_after}
 use Rattle.script_run.specs.Calls.{Follows, IsAggregated}
 use Rattle.script_run.specs.Course.{Course, going_with, with_puts}
 use Rattle.script_run.proofs.Continuing.{onward-state, Reached-onward, with_puts-append}
@@ -35,7 +35,7 @@ use Rattle.script_run.proofs.Events.{alone_onward, alone_puts}
 
 -- the course directly after an event of the script, before those that are put in after it
 abbrev pub told : Callbacks → Course → Event → Course
-told c r e = record { moment = moved r.moment e; memory = remembered c r.memory r.moment.state e }
+told c r e = record { moment = moved r.moment e; memory = c.keeps r.memory r.moment.state e }
 
 module _ {R C : Type 0} (stream : R → Stream) (c : Callbacks) (stands : C → List ℕ → State → Type 0) where
   -- what plays events, and then others from where these lead, plays them all
@@ -128,7 +128,7 @@ module _ {R C : Type 0} (stream : R → Stream) (c : Callbacks) (stands : C → 
 
   pub commit_plays : (w w' : WorldView R) (k k' : C) (parts : CommitValue) → w'.source ≡ w.source → Makes StandsFor w w' (commit parts ∷ [])
       → ((memory : List ℕ) (s : State) → Reached s → stands k memory s → commit_answer parts w.monitor.core ≡ commit_answer parts s.core
-      → stands k' (remembered c memory s (commit parts)) (after s (commit parts)))
+      → stands k' (c.keeps memory s (commit parts)) (after s (commit parts)))
       → PlaysOne w w' k k' (λ r. commit parts)
   commit_plays w w' k k' parts source makes follow r reached here =
       let made = makes r.moment.state reached here.world.state in (
@@ -149,7 +149,7 @@ module _ {R C : Type 0} (stream : R → Stream) (c : Callbacks) (stands : C → 
       grew
       ∙ ap (λ (q : Core). x ++ writing.commit q.ticks (commit_answer parts q)) here.world.state.monitor.same
       ∙ ap (λ t. x ++ t) (sym (append-nil own))
-      ∙ ap (λ t. x ++ (own ++ t)) (sym (in_place.writes (remembered c r.memory s e) (after s e) e tt))
+      ∙ ap (λ t. x ++ (own ++ t)) (sym (in_place.writes (c.keeps r.memory s e) (after s e) e tt))
 
   -- ---- an aggregation
 
@@ -192,7 +192,7 @@ module _ {R C : Type 0} (stream : R → Stream) (c : Callbacks) (stands : C → 
   -- the callbacks stand for the state after each aggregation that they may have been told of
   abbrev pub GoesAlong : (monitor : MonitorView) (k k' : C) → Type 0
   GoesAlong monitor k k' = (memory : List ℕ) (s : State) (words : List ℕ) → IsAggregated (λ memory s. stands k memory s) monitor memory s words
-      → stands k' (remembered c memory s (aggregate words)) (after s (aggregate words))
+      → stands k' (c.keeps memory s (aggregate words)) (after s (aggregate words))
 
   pub aggregation_plays : (w w' : WorldView R) (k k' : C) → IsDue w → Plays stream w w' (λ m. events_of_steps 1 m)
       → GoesAlong w'.monitor k k'
@@ -204,7 +204,7 @@ module _ {R C : Type 0} (stream : R → Stream) (c : Callbacks) (stands : C → 
         record {
           world = made.1;
           callbacks =
-              subst (λ e. stands k' (remembered c r.memory r.moment.state e) (after r.moment.state e)) (sym is)
+              subst (λ e. stands k' (c.keeps r.memory r.moment.state e) (after r.moment.state e)) (sym is)
               (follow r.memory r.moment.state (words_at r) (aggregated_at w w' k due plays r reached here));
         },
       )
@@ -228,7 +228,7 @@ module _ {R C : Type 0} (stream : R → Stream) (c : Callbacks) (stands : C → 
       let own = writing.aggregate (printed_state s) in
       let added = lines_after c r (aggregate words) in
       subst (λ e. z ≡ x ++ (event_text writing r.moment.state e ++ lines_after c r e)) (sym is)
-      (lines (remembered c r.memory r.moment.state (aggregate words)) s words (follow r.memory r.moment.state words shown) shown.shows
+      (lines (c.keeps r.memory r.moment.state (aggregate words)) s words (follow r.memory r.moment.state words shown) shown.shows
       ∙ ap (λ t. t ++ added) (grew ∙ ap (λ p. x ++ writing.aggregate p) (printed_monitor-stands w'.monitor s shown.shows))
       ∙ append_assoc x own added)
 

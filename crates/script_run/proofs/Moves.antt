@@ -1,7 +1,6 @@
 -- What a player makes at once.
 use Rattle.std.proofs.Common.{◌≡◌, ℕ, zero, suc, ◌+◌, ◌-◌, ◌≤◌, Bool, true, false, List, [], ◌∷◌, ◌++◌, refl, sym, ap, ◌∙◌, subst, append_assoc, append-nil, arith, Result, Ok, Err, OnOk, OnErr, take, length}
 use Rattle.std.specs.Prelude.{◌==◌, ◌||◌}
-use Rattle.std.proofs.Math.Seq.{take-append_seam}
 use Rattle.std.specs.List.{AllByRecursion}
 use Rattle.rand_core.specs.Stream.{Stream}
 use Rattle.live_commit.specs.declared.phase.Phase.{Phase}
@@ -19,7 +18,7 @@ use Rattle.damon_world.specs.Touches.{touches}
 use Rattle.snapshot_print.specs.Forms.{writing_of}
 use Rattle.snapshot_print.specs.Printed.{printed_monitor, printed_state}
 use Rattle.snapshot_print.proofs.Lemmas.{printed_monitor-stands}
-use Rattle.script_run.specs.Callbacks.{AddInPlace, Callbacks, IsAlone, IsStep, remembered}
+use Rattle.script_run.specs.Callbacks.{AddInPlace, Callbacks, IsAlone, IsStep}
 use Rattle.script_run.specs.Calls.{Follows}
 use Rattle.script_run.specs.Course.{Course, going_with}
 use Rattle.script_run.proofs.Continuing.{Reached-onward}
@@ -204,8 +203,8 @@ module _ {R C : Type 0} (stream : R → Stream) (c : Callbacks) (stands : C → 
         grew
         ∙ ap (λ p. x ++ (writing_of a.form).show p) (printed_monitor-stands a.world.monitor s here.world.state.monitor)
         ∙ ap (λ t. x ++ t) (sym (append-nil own))
-        ∙ ap (λ t. x ++ (own ++ (t ++ []))) (sym (in_place.writes (remembered c r.memory s show) s show tt))
-        ∙ ap (λ ps. x ++ (own ++ (lines_after c r show ++ (events_text (writing_of a.form) s ps ++ [])))) (sym (in_place.puts (remembered c r.memory s show) s show tt)));
+        ∙ ap (λ t. x ++ (own ++ (t ++ []))) (sym (in_place.writes (c.keeps r.memory s show) s show tt))
+        ∙ ap (λ ps. x ++ (own ++ (lines_after c r show ++ (events_text (writing_of a.form) s ps ++ [])))) (sym (in_place.puts (c.keeps r.memory s show) s show tt)));
     form = form;
   }
     where

@@ -5,9 +5,10 @@ use Rattle.damon_core.specs.Event.{Event, Fits, prepare, clear, load, observe, a
 use Rattle.damon_core.specs.After.{after}
 use Rattle.damon_core.specs.Reached.{AllByHit, AllFit, Reached}
 
--- What callbacks remember first, at the opening, and then after each event of the script; the events that are put in directly
--- after such an event, the text directly after the event's own text, and the text after the last line. The memory is the one
--- after the event, the state too; at the end both are the last ones. Nothing is remembered of the events that are put in.
+-- What callbacks remember first, at the opening, and then of each event of the script, by the memory and the state before it; the
+-- events that are put in directly after it, by the memory after it and the state before it; the text directly after the event's own
+-- text, by the memory and the state after it; and the text after the last line, by the last ones. Nothing is remembered of the events
+-- that are put in.
 pub record Callbacks : Type 0 where
   pub first : State → List ℕ
   pub keeps : List ℕ → State → Event → List ℕ
@@ -25,13 +26,9 @@ no_callbacks = record {
   ends = λ memory s. [];
 }
 
--- what is remembered directly after an event of the script
-abbrev pub remembered : Callbacks → List ℕ → State → Event → List ℕ
-remembered c memory s e = c.keeps memory (after s e) e
-
 -- the events that are put in directly after an event of the script
 abbrev pub put_after : Callbacks → List ℕ → State → Event → List Event
-put_after c memory s e = c.puts (remembered c memory s e) (after s e) e
+put_after c memory s e = c.puts (c.keeps memory s e) s e
 
 -- a step that is no aggregation
 abbrev pub IsStep : Event → Type 0

@@ -2,7 +2,7 @@
 use Rattle.std.specs.Prelude.{ℕ, List, [], ◌∷◌, ◌++◌}
 use Rattle.damon_core.specs.Event.{Event}
 use Rattle.damon_world.specs.Moment.{Moment, along}
-use Rattle.script_run.specs.Callbacks.{Callbacks, put_after, remembered}
+use Rattle.script_run.specs.Callbacks.{Callbacks, put_after}
 use Rattle.script_run.specs.Going.{Going}
 
 -- where a run stands: its moment, and what its callbacks remember
@@ -14,7 +14,7 @@ pub record Course : Type 0 where
 abbrev pub course_after : Callbacks → Course → Event → Course
 course_after c r e = record {
   moment = along r.moment (e ∷ put_after c r.memory r.moment.state e);
-  memory = remembered c r.memory r.moment.state e;
+  memory = c.keeps r.memory r.moment.state e;
 }
 
 -- a run with callbacks: its places are courses

@@ -7,7 +7,7 @@ use Rattle.damon_core.specs.Reached.{run}
 use Rattle.snapshot_print.specs.Printed.{printed_state}
 use Rattle.snapshot_print.specs.Writing.{Writing}
 use Rattle.damon_control.specs.Script.{ScriptValue}
-use Rattle.script_run.specs.Callbacks.{Callbacks, put_after, remembered}
+use Rattle.script_run.specs.Callbacks.{Callbacks, put_after}
 use Rattle.script_run.specs.Course.{Course, course_after, going_with, with_puts}
 use Rattle.script_run.specs.Going.{onward}
 use Rattle.script_run.specs.Report.{event_text, events_text}
@@ -28,7 +28,7 @@ unfold_with c s = with_puts c (start_with c s) (own_events c s)
 
 -- what callbacks write directly after the text of an event of the script
 abbrev pub lines_after : Callbacks → Course → Event → List ℕ
-lines_after c r e = c.writes (remembered c r.memory r.moment.state e) (after r.moment.state e) e
+lines_after c r e = c.writes (c.keeps r.memory r.moment.state e) (after r.moment.state e) e
 
 -- What events of the script write from a course on: each its own text, then the lines of callbacks, and then the text of the
 -- events that are put in.

@@ -8,7 +8,7 @@ ghost use Rattle.damon_core.specs.Stands.{Stands};
 ghost use Rattle.damon_core.specs.State.{State};
 ghost use Rattle.damon_world.specs.Touches.{touches};
 ghost use Rattle.live_commit.specs.Commit.{commit_value};
-ghost use Rattle.script_run.specs.Callbacks.{AddInPlace, Callbacks as CallbacksValue, IsStep, no_callbacks, put_after, remembered};
+ghost use Rattle.script_run.specs.Callbacks.{AddInPlace, Callbacks as CallbacksValue, IsStep, no_callbacks, put_after};
 ghost use Rattle.script_run.specs.Calls.{Follows, IsAggregated, IsCommitted, MayFollow};
 
 use damon_core::{Changed, Monitor};
@@ -45,7 +45,7 @@ pub trait Callbacks {
             × IsAggregated (stands_for self.old) monitor.now memory s words }
         ensures stands { (memory : List ℕ) (s : State) (words : List ℕ)
             → IsAggregated (stands_for self.old) monitor.now memory s words
-            → stands_for self.new (remembered callbacks memory s (aggregate_event words))
+            → stands_for self.new (callbacks.keeps memory s (aggregate_event words))
             (after s (aggregate_event words)) }
         ensures puts { (memory : List ℕ) (s : State) (words : List ℕ)
             → IsAggregated (stands_for self.old) monitor.now memory s words
@@ -56,7 +56,7 @@ pub trait Callbacks {
         ensures stands { (memory : List ℕ) (s : State)
             → IsCommitted (stands_for self.old) (commit_value commit.now) answer.now memory s
             → stands_for self.new
-            (remembered callbacks memory s (commit_event (commit_value commit.now)))
+            (callbacks.keeps memory s (commit_event (commit_value commit.now)))
             (after s (commit_event (commit_value commit.now))) }
         ensures puts { (memory : List ℕ) (s : State)
             → IsCommitted (stands_for self.old) (commit_value commit.now) answer.now memory s

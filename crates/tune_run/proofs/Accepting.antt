@@ -1,13 +1,10 @@
--- Which commits are accepted, what tells it afterwards, and that each change that tunes a slot is.
+-- Which commits are accepted: each change that tunes a slot is.
 use Rattle.std.proofs.Common.{◌≡◌, ℕ, ◌≤◌, Bool, true, false, List, [], ◌∷◌, ◌++◌, length, reverse, Ok, Err, Option, Some, None, refl, sym, ap, subst, ◌∙◌, arith, append-nil, append_assoc}
-use Rattle.std.specs.Prelude.{Result, ◌==◌, is_ok, filter_map, if◌then◌else◌}
+use Rattle.std.specs.Prelude.{Result, ◌==◌, filter_map, if◌then◌else◌}
 use Rattle.std.specs.Result.{result_and}
 use Rattle.std.proofs.lemmas.Bool.Decides.{nat_tests}
 use Rattle.std.proofs.lemmas.Grind.{reverse_onto}
-use Rattle.std.proofs.lemmas.List.{length-map}
 use Rattle.damon_types.specs.Faults.{fault_as}
-use Rattle.damon_types.specs.declared.attrs.Attrs.{Attrs}
-use Rattle.damon_types.specs.declared.range.RangeSpec.{RangeSpec}
 use Rattle.damon_types.specs.declared.row.Row.{Row}
 use Rattle.damon_types.specs.declared.scheme.CostPart.{CostPart}
 use Rattle.damon_types.specs.declared.scheme.Quota.{Quota}
@@ -18,7 +15,6 @@ use Rattle.damon_types.specs.declared.scheme.Version.{Version}
 use Rattle.damon_types.specs.declared.scheme.Version.TheVariants.{One, Two}
 use Rattle.damon_types.specs.Scheme.{checked_in}
 use Rattle.damon_types.proofs.Lemmas.{both_ok, fault_as_ok}
-use Rattle.target_ranges.specs.Made.{range_of}
 use Rattle.live_commit.specs.declared.fault.SetupFault.TheVariants.{BadScheme as BadSlot, RepeatedSlot}
 use Rattle.live_commit.specs.declared.fault.CommitFault.{CommitFault}
 use Rattle.live_commit.specs.declared.fault.CommitFault.TheVariants.{BadScheme}
@@ -39,26 +35,10 @@ use Rattle.damon_core.specs.State.{Core, State, opening, row_count, set_note}
 use Rattle.damon_core.proofs.Lemmas.{few_after, scheme_stays}
 use Rattle.quota_goal.specs.Tuned.{with_bytes}
 use Rattle.tune_run.specs.Callbacks.{change_alone}
-use Rattle.tune_run.specs.Tops.{was_accepted}
 
 and_ok : {E : Type 0} (r s : Result (Unit {0}) E) → r ≡ Ok tt → s ≡ Ok tt → result_and r s ≡ Ok tt
 and_ok (Ok t) s first second = second
 and_ok (Err e) s first second = absurd (cc)
-
--- ---- what tells afterwards that a commit was accepted
-
-phase_stays_free : (phase : Phase) (rows later : ℕ) (old new : List Row) → checked_phase phase rows ≡ Ok tt
-    → checked_phase (phase_after_commit phase old new) later ≡ Ok tt
-phase_stays_free Idle rows later old new ok = refl
-phase_stays_free (Clearing next) rows later old new ok = absurd (cc)
-phase_stays_free Armed rows later old new ok =
-    elim (becomes_void Armed old new) as (λ b. checked_phase (if b then Void else Armed) later ≡ Ok tt) [
-      | true ↦ refl
-      | false ↦ refl
-    ]
-phase_stays_free (Checking next) rows later old new ok = absurd (cc)
-phase_stays_free Void rows later old new ok = refl
-phase_stays_free Due rows later old new ok = refl
 
 -- the checks of a commit after that of the phase
 abbrev pub later_checks : CommitValue → Core → Result (Unit {0}) CommitFault
@@ -68,32 +48,6 @@ later_checks parts c =
     (result_and (checked_number (ranges_after parts.ranges v.ranges) (max_after parts.attrs v.max))
     (result_and (checked_new_attrs v.cap parts.attrs)
     (result_and (checked_new_slot v.version parts.slot) (checked_cost v.version parts.cost))))
-
-later_stay : (c : Core) (attrs : Option Attrs) (ranges : Option (List RangeSpec)) (slot : Option SlotChange) (metric : Option ℕ) (cost : Option CostPart)
-    → (let parts : CommitValue = record { attrs = attrs; ranges = ranges; slot = slot; metric = metric; cost = cost } in
-    later_checks parts (committed_core parts c) ≡ later_checks parts c)
-later_stay c None None slot metric cost = refl
-later_stay c None (Some specs) slot metric cost = refl
-later_stay c (Some a) None slot metric cost = refl
-later_stay c (Some a) (Some specs) slot metric cost = refl
-
--- after a commit that was accepted its check passes again
-pub passes_again : (parts : CommitValue) (c : Core) → check_of parts c ≡ Ok tt → check_of parts (committed_core parts c) ≡ Ok tt
-passes_again parts c ok =
-    let new = committed_core parts c in
-    let both = both_ok (checked_phase c.phase (row_count c)) (later_checks parts c) ok in
-    and_ok (checked_phase new.phase (row_count new)) (later_checks parts new)
-    (phase_stays_free c.phase (row_count c) (row_count new) c.regions.rows new.regions.rows both.0)
-    (later_stay c parts.attrs parts.ranges parts.slot parts.metric parts.cost ∙ both.1)
-
-told_by : (parts : CommitValue) (s : State) (check : Result (Unit {0}) CommitFault) → check_of parts s.core ≡ check
-    → was_accepted parts (if_accepted check (committed parts s) s) ≡ is_ok check
-told_by parts s (Ok t) is = ap is_ok (passes_again parts s.core is)
-told_by parts s (Err fault) is = ap is_ok is
-
--- the state after a commit tells whether it was accepted
-pub acceptance_is_told : (parts : CommitValue) (s : State) → was_accepted parts (after s (commit parts)) ≡ is_ok (check_of parts s.core)
-acceptance_is_told parts s = told_by parts s (check_of parts s.core) refl
 
 -- ---- what holds of the schemes of each reached state
 
@@ -273,15 +227,19 @@ tuned_is_accepted s slot scheme bytes takes free held =
     (and_ok checked (Ok tt) (fault_as_of_ok BadScheme (checked_in c.version slot (with_bytes scheme bytes)) (other_bytes c.version slot scheme bytes ∙ takes.1 slot scheme held)) refl))
 
 -- commits are allowed in the phase after a commit that was accepted
-free_phase : (phase : Phase) (rows : ℕ) → checked_phase phase rows ≡ Ok tt → AllowsCommit phase
-free_phase Idle rows ok = tt
-free_phase (Clearing next) rows ok = absurd (cc)
-free_phase Armed rows ok = tt
-free_phase (Checking next) rows ok = absurd (cc)
-free_phase Void rows ok = tt
-free_phase Due rows ok = tt
+phase_stays_free : (phase : Phase) (rows : ℕ) (old new : List Row) → checked_phase phase rows ≡ Ok tt → AllowsCommit (phase_after_commit phase old new)
+phase_stays_free Idle rows old new ok = tt
+phase_stays_free (Clearing next) rows old new ok = absurd (cc)
+phase_stays_free Armed rows old new ok =
+    elim (becomes_void Armed old new) as (λ b. AllowsCommit (if b then Void else Armed)) [
+      | true ↦ tt
+      | false ↦ tt
+    ]
+phase_stays_free (Checking next) rows old new ok = absurd (cc)
+phase_stays_free Void rows old new ok = tt
+phase_stays_free Due rows old new ok = tt
 
 pub free_again : (parts : CommitValue) (c : Core) → check_of parts c ≡ Ok tt → AllowsCommit (committed_core parts c).phase
 free_again parts c ok =
-    let new = committed_core parts c in
-    free_phase new.phase (row_count new) (both_ok (checked_phase new.phase (row_count new)) (later_checks parts new) (passes_again parts c ok)).0
+    phase_stays_free c.phase (row_count c) c.regions.rows (committed_core parts c).regions.rows
+    (both_ok (checked_phase c.phase (row_count c)) (later_checks parts c) ok).0

@@ -124,14 +124,14 @@ module _ (goals : List Goal) where
       (length-set tops c.slot (top_after c.scheme (get_or tops c.slot 0)) ∙ here.each, given_below t c room tops_room here.below)
 
   commits : NamesSlots → (tops : List ℕ) (s : State) (parts : CommitValue) (check : Result (Unit {0}) CommitFault) → check_of parts s.core ≡ check
-      → IsCarried goals tops s → IsCarried goals (tops_kept tops (after s (commit parts)) (commit parts)) (after s (commit parts))
+      → IsCarried goals tops s → IsCarried goals (tops_kept tops s (commit parts)) (after s (commit parts))
   commits law tops s parts (Ok t) is here =
       let view = tuner_in goals tops s in
       let new = option_map_or (λ c. given c view) parts.slot view in
       let within = law parts s is in
       let one = given_one tops s parts.slot within here in
       let stands = accepted_stands goals tops parts s view new None None (record { is = refl; free = tt }) is within refl in
-      let kept : tops_kept tops (after s (commit parts)) (commit parts) ≡ tops_after parts.slot tops =
+      let kept : tops_kept tops s (commit parts) ≡ tops_after parts.slot tops =
       ap (λ (x : TunerView). x.tops) (sym stands.is) ∙ tops_given parts.slot in
       record {
         takes = event_takes (commit parts) s here.takes;
@@ -152,7 +152,7 @@ module _ (goals : List Goal) where
       }
 
   -- after an event of the script
-  pub event_carries : NamesSlots → (tops : List ℕ) (s : State) (e : Event) → IsCarried goals tops s → IsCarried goals (tops_kept tops (after s e) e) (after s e)
+  pub event_carries : NamesSlots → (tops : List ℕ) (s : State) (e : Event) → IsCarried goals tops s → IsCarried goals (tops_kept tops s e) (after s e)
   event_carries law tops s (touch page) here = stays tops s (touch page) tt here
   event_carries law tops s (prepare words) here = stays tops s (prepare words) tt here
   event_carries law tops s clear here = stays tops s clear tt here

@@ -1,5 +1,5 @@
 -- The tuner after a commit of the script, and after one that is put in.
-use Rattle.std.proofs.Common.{◌≡◌, ℕ, ◌<◌, ◌≤◌, Bool, true, false, List, [], set as put, get_or, Ok, Err, Option, Some, None, refl, sym, ap, subst, ◌∙◌}
+use Rattle.std.proofs.Common.{◌≡◌, ℕ, ◌<◌, ◌≤◌, true, false, List, [], set as put, get_or, Ok, Err, Option, Some, None, refl, sym, ap, subst, ◌∙◌}
 use Rattle.std.specs.Prelude.{IfSome, Result, is_ok, if◌then◌else◌}
 use Rattle.std.specs.Option.{option_map, option_map_or}
 use Rattle.std.specs.Result.{result_and}
@@ -24,8 +24,8 @@ use Rattle.quota_goal.specs.declared.moment.Moment.TheVariants.{Metric}
 use Rattle.quota_goal.specs.Tuned.{TunerView, after_change, given, with_bytes}
 use Rattle.tune_run.specs.Callbacks.{change_alone, commits_of, moment_after, schemes_in, tune_callbacks, tuned_by, tuner_in}
 use Rattle.tune_run.specs.Kept.{IsNextChange, StandsTuned, left_at}
-use Rattle.tune_run.specs.Tops.{tops_after, tops_kept, was_accepted}
-use Rattle.tune_run.proofs.Accepting.{acceptance_is_told, TakesChanges, free_again, tuned_is_accepted}
+use Rattle.tune_run.specs.Tops.{tops_after, tops_kept}
+use Rattle.tune_run.proofs.Accepting.{TakesChanges, free_again, tuned_is_accepted}
 use Rattle.tune_run.proofs.Changes.{from_the_first, retuned_is}
 use Rattle.tune_run.proofs.Slots.{counted_below, map_alike, scheme_is, schemes_dropped, schemes_of, schemes_set}
 
@@ -77,15 +77,13 @@ module _ (goals : List Goal) (tops : List ℕ) (parts : CommitValue) (s : State)
   pub is_committed : check_of parts s.core ≡ Ok tt → then_state ≡ committed parts s
   is_committed ok = ap (λ r. if_accepted r (committed parts s) s) ok
 
-  pub is_told : (r : Result (Unit {0}) CommitFault) → check_of parts s.core ≡ r → was_accepted parts then_state ≡ is_ok r
-  is_told r is = acceptance_is_told parts s ∙ ap is_ok is
-
-  kept_if : (b : Bool) → was_accepted parts then_state ≡ b → tops_kept tops then_state (commit parts) ≡ (if b then tops_after parts.slot tops else tops)
-  kept_if b is = ap (λ x. if x then tops_after parts.slot tops else tops) is
+  kept_if : (r : Result (Unit {0}) CommitFault) → check_of parts s.core ≡ r
+      → tops_kept tops s (commit parts) ≡ (if is_ok r then tops_after parts.slot tops else tops)
+  kept_if r is = ap (λ x. if is_ok x then tops_after parts.slot tops else tops) is
 
   pub accepted_stands : (old new : TunerView) (before moment : Option Moment) → StandsTuned goals old before tops s → check_of parts s.core ≡ Ok tt
       → IfSome parts.slot (λ c. c.slot < slot_count) → new ≡ option_map_or (λ c. given c old) parts.slot old
-      → StandsTuned goals new moment (tops_kept tops then_state (commit parts)) then_state
+      → StandsTuned goals new moment (tops_kept tops s (commit parts)) then_state
   accepted_stands old new before moment stands ok below is =
       let now = is_committed ok in
       record {
@@ -94,43 +92,43 @@ module _ (goals : List Goal) (tops : List ℕ) (parts : CommitValue) (s : State)
             ∙ ap (λ (t : TunerView). option_map_or (λ c. given c t) parts.slot t) stands.is
             ∙ given_is goals tops parts s below
             ∙ ap (tuner_in goals (tops_after parts.slot tops)) (sym now)
-            ∙ ap (λ all. tuner_in goals all then_state) (sym (kept_if true (is_told (Ok tt) ok)));
+            ∙ ap (λ all. tuner_in goals all then_state) (sym (kept_if (Ok tt) ok));
         free =
             all_some (AllowsCommit then_state.core.phase) moment
             (subst (λ (x : State). AllowsCommit x.core.phase) (sym now) (free_again parts s.core ok));
       }
 
   pub refused_stands : (old : TunerView) (before : Option Moment) (fault : CommitFault) → StandsTuned goals old before tops s
-      → check_of parts s.core ≡ Err fault → StandsTuned goals old None (tops_kept tops then_state (commit parts)) then_state
+      → check_of parts s.core ≡ Err fault → StandsTuned goals old None (tops_kept tops s (commit parts)) then_state
   refused_stands old before fault stands refused =
       record {
         is =
             stands.is
             ∙ ap (tuner_in goals tops) (sym (ap (λ r. if_accepted r (committed parts s) s) refused))
-            ∙ ap (λ all. tuner_in goals all then_state) (sym (kept_if false (is_told (Err fault) refused)));
+            ∙ ap (λ all. tuner_in goals all then_state) (sym (kept_if (Err fault) refused));
         free = tt;
       }
 
-  scored_if : (b : Bool) → was_accepted parts then_state ≡ b
-      → moment_after then_state (commit parts) ≡ (if b then option_map (λ value. Metric value) parts.metric else None)
-  scored_if b is = ap (λ x. if x then option_map (λ value. Metric value) parts.metric else None) is
+  pub scored_if : (r : Result (Unit {0}) CommitFault) → check_of parts s.core ≡ r
+      → moment_after s (commit parts) ≡ (if is_ok r then option_map (λ value. Metric value) parts.metric else None)
+  scored_if r is = ap (λ x. if is_ok x then option_map (λ value. Metric value) parts.metric else None) is
 
-  by_metric : (new : TunerView) (metric : Option ℕ) → new ≡ tuner_in goals (tops_kept tops then_state (commit parts)) then_state
+  by_metric : (new : TunerView) (metric : Option ℕ) → new ≡ tuner_in goals (tops_kept tops s (commit parts)) then_state
       → left_at new (option_map (λ value. Metric value) metric) 0
-      ≡ option_map_or (tuned_by (tuner_in goals (tops_kept tops then_state (commit parts)) then_state)) (option_map (λ value. Metric value) metric) []
+      ≡ option_map_or (tuned_by (tuner_in goals (tops_kept tops s (commit parts)) then_state)) (option_map (λ value. Metric value) metric) []
   by_metric new None is = refl
   by_metric new (Some value) is = ap commits_of (from_the_first new (Metric value)) ∙ ap (λ t. tuned_by t (Metric value)) is
 
   pub accepted_puts : (new : TunerView) → check_of parts s.core ≡ Ok tt
-      → new ≡ tuner_in goals (tops_kept tops then_state (commit parts)) then_state
+      → new ≡ tuner_in goals (tops_kept tops s (commit parts)) then_state
       → left_at new (option_map (λ value. Metric value) parts.metric) 0 ≡ put_after (tune_callbacks goals) tops s (commit parts)
   accepted_puts new ok is =
       by_metric new parts.metric is
-      ∙ ap (λ m. option_map_or (tuned_by (tuner_in goals (tops_kept tops then_state (commit parts)) then_state)) m []) (sym (scored_if true (is_told (Ok tt) ok)))
+      ∙ ap (λ m. option_map_or (tuned_by (tuner_in goals (tops_kept tops s (commit parts)) then_state)) m []) (sym (scored_if (Ok tt) ok))
 
   pub refused_puts : (fault : CommitFault) → check_of parts s.core ≡ Err fault → [] ≡ put_after (tune_callbacks goals) tops s (commit parts)
   refused_puts fault refused =
-      ap (λ m. option_map_or (tuned_by (tuner_in goals (tops_kept tops then_state (commit parts)) then_state)) m []) (sym (scored_if false (is_told (Err fault) refused)))
+      ap (λ m. option_map_or (tuned_by (tuner_in goals (tops_kept tops s (commit parts)) then_state)) m []) (sym (scored_if (Err fault) refused))
 
 -- ---- commits that are put in
 

@@ -7,7 +7,7 @@ use Rattle.damon_core.specs.Event.{commit}
 use Rattle.damon_core.specs.Reached.{AllByHit, AllFit}
 use Rattle.damon_core.specs.Slots.{slot_count}
 use Rattle.damon_core.specs.State.{State}
-use Rattle.script_run.specs.Callbacks.{FitAlways, FitByHit, remembered}
+use Rattle.script_run.specs.Callbacks.{FitAlways, FitByHit}
 use Rattle.quota_goal.specs.declared.goals.Goal.{Goal}
 use Rattle.quota_goal.specs.declared.moment.Moment.{Moment}
 use Rattle.quota_goal.specs.Tuned.{TunerView}
@@ -30,4 +30,4 @@ at_moment t (Some moment) s =
 
 pub fit_always : (goals : List Goal) → FitAlways (tune_callbacks goals)
 fit_always goals tops s e reached fits =
-    at_moment (tuner_in goals (remembered (tune_callbacks goals) tops s e) (after s e)) (moment_after (after s e) e) (after s e)
+    at_moment (tuner_in goals ((tune_callbacks goals).keeps tops s e) (after s e)) (moment_after s e) (after s e)

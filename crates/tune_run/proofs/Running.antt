@@ -2,7 +2,7 @@
 use Rattle.std.proofs.Common.{◌≡◌, ℕ, ◌<◌, ◌≤◌, min, true, false, List, [], ◌∷◌, ◌++◌, get_or, Option, Some, None, Ok, Err, Result, refl, sym, ap, subst, ◌∙◌, arith, append-nil}
 use Rattle.std.specs.Prelude.{◌==◌, IfSome, nat_lt, if◌then◌else◌}
 use Rattle.std.specs.List.{AllByRecursion}
-use Rattle.std.specs.Option.{option_and_then, option_map, option_map_or, unwrap_or}
+use Rattle.std.specs.Option.{option_and_then, option_map_or, unwrap_or}
 use Rattle.std.proofs.lemmas.Bool.Decides.{nat_tests}
 use Rattle.std.proofs.lemmas.List.FromFn.{length-map-range_with_len}
 use Rattle.std.proofs.Math.ListN.{get_or-eq_default}
@@ -26,7 +26,6 @@ use Rattle.script_run.specs.PutIn.{AllAccepted}
 use Rattle.script_run.specs.RunWith.{start_with}
 use Rattle.quota_goal.specs.declared.goals.Goal.{Goal}
 use Rattle.quota_goal.specs.declared.moment.Moment.{Moment}
-use Rattle.quota_goal.specs.declared.moment.Moment.TheVariants.{Metric}
 use Rattle.quota_goal.specs.Goals.{IsGoal}
 use Rattle.quota_goal.specs.Next.{next}
 use Rattle.quota_goal.specs.Tuned.{TunerView, bytes_at, top_after, tunable_bytes}
@@ -36,7 +35,7 @@ use Rattle.tune_run.specs.Tops.{top_of, tops_kept, tops_of}
 use Rattle.tune_run.proofs.Accepting.{free_again, opening_takes}
 use Rattle.tune_run.proofs.Below.{IsCarried, NamesSlots, below_at, event_carries, own_top, puts_carry}
 use Rattle.tune_run.proofs.Bytes.{bytes_tuned, none_tunable}
-use Rattle.tune_run.proofs.Committing.{is_committed, is_told}
+use Rattle.tune_run.proofs.Committing.{is_committed, scored_if}
 use Rattle.tune_run.proofs.Least.{Bounds, new_lies_between, one_scored}
 use Rattle.tune_run.proofs.Slots.{schemes_of, scheme_is, top_is}
 use Rattle.tune_run.proofs.Through.{Tunes, all_tuned, tuned_scheme}
@@ -86,15 +85,13 @@ first_below goals s slot =
 -- ---- where goals are scored, commits are allowed
 
 by_check : (parts : CommitValue) (s : State) (m : Moment) (check : Result (Unit {0}) CommitFault) → check_of parts s.core ≡ check
-    → moment_after (after s (commit parts)) (commit parts) ≡ Some m → AllowsCommit (after s (commit parts)).core.phase
+    → moment_after s (commit parts) ≡ Some m → AllowsCommit (after s (commit parts)).core.phase
 by_check parts s m (Ok t) is scored = subst (λ (x : State). AllowsCommit x.core.phase) (sym (is_committed [] [] parts s is)) (free_again parts s.core is)
 by_check parts s m (Err fault) is scored =
-    let none : moment_after (after s (commit parts)) (commit parts) ≡ None =
-    ap (λ x. if x then option_map (λ value. Metric value) parts.metric else None) (is_told [] [] parts s (Err fault) is) in
-    let bad : None ≡ Some m = sym none ∙ scored in
+    let bad : None ≡ Some m = sym (scored_if [] [] parts s (Err fault) is) ∙ scored in
     absurd (cc bad)
 
-scored_is_free : (s : State) (e : Event) (m : Moment) → moment_after (after s e) e ≡ Some m → AllowsCommit (after s e).core.phase
+scored_is_free : (s : State) (e : Event) (m : Moment) → moment_after s e ≡ Some m → AllowsCommit (after s e).core.phase
 scored_is_free s (touch page) m scored = absurd (cc scored)
 scored_is_free s (prepare words) m scored = absurd (cc scored)
 scored_is_free s clear m scored = absurd (cc scored)
@@ -111,7 +108,7 @@ module _ (laws : Bounds) (law : NamesSlots) (goals : List Goal) (r : Course) (e 
   then_state = after r.moment.state e
 
   abbrev pub then_tops : List ℕ
-  then_tops = tops_kept r.memory then_state e
+  then_tops = tops_kept r.memory r.moment.state e
 
   abbrev pub then_tuner : TunerView
   then_tuner = tuner_in goals then_tops then_state
@@ -125,24 +122,24 @@ module _ (laws : Bounds) (law : NamesSlots) (goals : List Goal) (r : Course) (e 
 
   pub put_carried : (puts later : List Event) → put_in goals r e ≡ puts ++ later → IsCarried goals then_tops (run then_state puts)
   put_carried puts later is =
-      (elim (moment_after then_state e) as (λ o. moment_after then_state e ≡ o → option_map_or (tuned_by then_tuner) o [] ≡ puts ++ later → IsCarried goals then_tops (run then_state puts)) [
+      (elim (moment_after r.moment.state e) as (λ o. moment_after r.moment.state e ≡ o → option_map_or (tuned_by then_tuner) o [] ≡ puts ++ later → IsCarried goals then_tops (run then_state puts)) [
         | None ↦ λ none these. no_puts puts later these
         | Some m ↦ λ some these. puts_carry goals laws then_tops m slot_count 0 then_state (omega arith) (scored_is_free r.moment.state e m some) carried puts later these
       ]) refl is
 
   -- what is put in at a moment
-  tunes : (m : Moment) → moment_after then_state e ≡ Some m → Tunes goals then_tops m 0 then_state (tuned_by then_tuner m)
+  tunes : (m : Moment) → moment_after r.moment.state e ≡ Some m → Tunes goals then_tops m 0 then_state (tuned_by then_tuner m)
   tunes m some = all_tuned goals then_tops m slot_count 0 then_state (omega arith) carried.takes (scored_is_free r.moment.state e m some)
 
   pub puts_accepted : AllAccepted then_state (put_in goals r e)
   puts_accepted =
-      (elim (moment_after then_state e) as (λ o. moment_after then_state e ≡ o → AllAccepted then_state (option_map_or (tuned_by then_tuner) o [])) [
+      (elim (moment_after r.moment.state e) as (λ o. moment_after r.moment.state e ≡ o → AllAccepted then_state (option_map_or (tuned_by then_tuner) o [])) [
         | None ↦ λ none. tt
         | Some m ↦ λ some. (tunes m some).accepted
       ]) refl
 
   -- the bytes of a slot once all is put in
-  pub bytes_then : (m : Moment) (slot : ℕ) → moment_after then_state e ≡ Some m → slot < slot_count
+  pub bytes_then : (m : Moment) (slot : ℕ) → moment_after r.moment.state e ≡ Some m → slot < slot_count
       → bytes_at (tuner_then goals r e) slot ≡ option_and_then tunable_bytes (tuned_scheme then_tuner slot m)
   bytes_then m slot some within =
       let put : put_in goals r e ≡ tuned_by then_tuner m = ap (λ o. option_map_or (tuned_by then_tuner) o []) some in
@@ -156,7 +153,7 @@ module _ (laws : Bounds) (law : NamesSlots) (goals : List Goal) (r : Course) (e 
   abbrev is_within : Moment → ℕ → Option ℕ → Type 0
   is_within m slot bytes = IfSome bytes (LiesBetween (scored_goals goals slot m) (get_or then_tops slot 0))
 
-  slot_within : AllByRecursion IsGoal goals → (m : Moment) (slot : ℕ) → moment_after then_state e ≡ Some m → is_within m slot (bytes_at (tuner_then goals r e) slot)
+  slot_within : AllByRecursion IsGoal goals → (m : Moment) (slot : ℕ) → moment_after r.moment.state e ≡ Some m → is_within m slot (bytes_at (tuner_then goals r e) slot)
   slot_within each m slot some =
       by_count (is_within m slot (bytes_at (tuner_then goals r e) slot)) slot
       (λ within. subst (is_within m slot) (sym (bytes_then m slot some within)) (by_bytes (bytes_at then_tuner slot) refl))
@@ -169,7 +166,7 @@ module _ (laws : Bounds) (law : NamesSlots) (goals : List Goal) (r : Course) (e 
 
   pub tuned_within : AllByRecursion IsGoal goals → AreTunedWithin goals r e
   tuned_within each =
-      (elim (moment_after then_state e) as (λ o. moment_after then_state e ≡ o → IfSome o (λ m. (slot : ℕ) → is_within m slot (bytes_at (tuner_then goals r e) slot))) [
+      (elim (moment_after r.moment.state e) as (λ o. moment_after r.moment.state e ≡ o → IfSome o (λ m. (slot : ℕ) → is_within m slot (bytes_at (tuner_then goals r e) slot))) [
         | None ↦ λ none. tt
         | Some m ↦ λ some slot. slot_within each m slot some
       ]) refl

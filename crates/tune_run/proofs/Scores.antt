@@ -95,7 +95,7 @@ module _ (goals : List Goal) (tops : List ℕ) (s : State) (slot : ℕ) where
 
   by_commit : NamesSlots → (parts : CommitValue) (check : Result (Unit {0}) CommitFault) → check_of parts s.core ≡ check
       → IfSome parts.slot (λ c. c.slot ≡ slot → ⊥)
-      → AreAlike slot (tuner_in goals (tops_kept tops (after s (commit parts)) (commit parts)) (after s (commit parts))) old_tuner
+      → AreAlike slot (tuner_in goals (tops_kept tops s (commit parts)) (after s (commit parts))) old_tuner
   by_commit law parts (Ok t) is leaves =
       let new = option_map_or (λ c. given c old_tuner) parts.slot old_tuner in
       let stands = accepted_stands goals tops parts s old_tuner new None None (record { is = refl; free = tt }) is (law parts s is) refl in
@@ -104,7 +104,7 @@ module _ (goals : List Goal) (tops : List ℕ) (s : State) (slot : ℕ) where
       let stands = refused_stands goals tops parts s old_tuner None fault (record { is = refl; free = tt }) is in
       subst (λ (x : TunerView). AreAlike slot x old_tuner) stands.is (refl, refl)
 
-  leaves_alike : NamesSlots → (e : Event) → LeavesSlot slot e → AreAlike slot (tuner_in goals (tops_kept tops (after s e) e) (after s e)) old_tuner
+  leaves_alike : NamesSlots → (e : Event) → LeavesSlot slot e → AreAlike slot (tuner_in goals (tops_kept tops s e) (after s e)) old_tuner
   leaves_alike law (touch page) leaves = no_commit (touch page) tt
   leaves_alike law (prepare words) leaves = no_commit (prepare words) tt
   leaves_alike law clear leaves = no_commit clear tt
@@ -127,7 +127,7 @@ module _ (laws : Bounds) (law : NamesSlots) (goals : List Goal) (g : Goal) (one 
   bytes_put r e here bytes was within =
       let t = tuner_before goals r e in
       let top = top_at t g.slot in
-      (elim (moment_after (after r.moment.state e) e) as (λ o. moment_after (after r.moment.state e) e ≡ o
+      (elim (moment_after r.moment.state e) as (λ o. moment_after r.moment.state e ≡ o
       → bytes_at (tuner_then goals r e) g.slot ≡ Some (new_by g top bytes (option_and_then (score_of g.kind) o))) [
         | None ↦ λ none.
             let put : put_in goals r e ≡ [] = ap (λ o. option_map_or (tuned_by t) o []) none in
@@ -145,7 +145,7 @@ module _ (laws : Bounds) (law : NamesSlots) (goals : List Goal) (g : Goal) (one 
   bytes_next : (r : Course) (e : Event) → IsCarried goals r.memory r.moment.state → (bytes : ℕ) → bytes_at (tuner_before goals r e) g.slot ≡ Some bytes
       → bytes_in goals (next_course r e) g.slot ≡ Some (new_by g (top_at (tuner_before goals r e) g.slot) bytes (score_at g r e))
   bytes_next r e here bytes was =
-      let tops = tops_kept r.memory (after r.moment.state e) e in
+      let tops = tops_kept r.memory r.moment.state e in
       ap (λ (x : State). bytes_at (tuner_in goals tops x) g.slot) (along-state r.moment (e ∷ put_in goals r e))
       ∙ by_count (bytes_at (tuner_then goals r e) g.slot ≡ Some (new_by g (top_at (tuner_before goals r e) g.slot) bytes (score_at g r e))) g.slot
       (bytes_put r e here bytes was)
@@ -155,10 +155,10 @@ module _ (laws : Bounds) (law : NamesSlots) (goals : List Goal) (g : Goal) (one 
   none_next : (r : Course) (e : Event) → IsCarried goals r.memory r.moment.state → (score : ℕ) → score_at g r e ≡ Some score
       → bytes_at (tuner_before goals r e) g.slot ≡ None → bytes_in goals (next_course r e) g.slot ≡ None
   none_next r e here score scored was =
-      let tops = tops_kept r.memory (after r.moment.state e) e in
+      let tops = tops_kept r.memory r.moment.state e in
       let t = tuner_before goals r e in
       ap (λ (x : State). bytes_at (tuner_in goals tops x) g.slot) (along-state r.moment (e ∷ put_in goals r e))
-      ∙ (elim (moment_after (after r.moment.state e) e) as (λ o. moment_after (after r.moment.state e) e ≡ o → option_and_then (score_of g.kind) o ≡ Some score
+      ∙ (elim (moment_after r.moment.state e) as (λ o. moment_after r.moment.state e ≡ o → option_and_then (score_of g.kind) o ≡ Some score
       → bytes_at (tuner_then goals r e) g.slot ≡ None) [
         | None ↦ λ none no_score. absurd (cc no_score)
         | Some m ↦ λ some its_score.

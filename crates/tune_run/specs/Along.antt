@@ -8,7 +8,7 @@ use Rattle.damon_core.specs.Reached.{run}
 use Rattle.damon_core.specs.State.{opening}
 use Rattle.damon_control.specs.Script.{ScriptValue}
 use Rattle.damon_control.specs.Sound.{IsSound}
-use Rattle.script_run.specs.Callbacks.{put_after, remembered}
+use Rattle.script_run.specs.Callbacks.{put_after}
 use Rattle.script_run.specs.Course.{Course, course_after, going_with}
 use Rattle.script_run.specs.Going.{onward}
 use Rattle.script_run.specs.RunWith.{own_events, start_with}
@@ -36,7 +36,7 @@ put_in goals r e = put_after (tune_callbacks goals) r.memory r.moment.state e
 -- the tuner after an event of the script and these commits that are put in after it
 abbrev pub tuner_past : List Goal → Course → Event → List Event → TunerView
 tuner_past goals r e puts =
-    tuner_in goals (remembered (tune_callbacks goals) r.memory r.moment.state e) (run (after r.moment.state e) puts)
+    tuner_in goals ((tune_callbacks goals).keeps r.memory r.moment.state e) (run (after r.moment.state e) puts)
 
 -- the tuner directly after an event of the script
 abbrev pub tuner_before : List Goal → Course → Event → TunerView
@@ -48,7 +48,7 @@ tuner_then goals r e = tuner_past goals r e (put_in goals r e)
 
 -- the moment at which an event scores goals
 abbrev pub moment_of : Course → Event → Option Moment
-moment_of r e = moment_after (after r.moment.state e) e
+moment_of r e = moment_after r.moment.state e
 
 -- ---- bytes and tops
 

@@ -6,6 +6,7 @@ use Rattle.std.specs.Option.{option_map, option_map_or}
 use Rattle.damon_types.specs.declared.scheme.Scheme.{Scheme}
 use Rattle.damon_types.specs.declared.scheme.SlotChange.{SlotChange}
 use Rattle.live_commit.specs.Commit.{CommitValue}
+use Rattle.damon_core.specs.After.{after}
 use Rattle.damon_core.specs.Event.{Event, aggregate, commit}
 use Rattle.damon_core.specs.Slots.{scheme_of, slot_count}
 use Rattle.damon_core.specs.State.{State}
@@ -26,10 +27,10 @@ schemes_in s = map (scheme_of s.notes) (range_with_len 0 slot_count)
 abbrev pub tuner_in : List Goal → List ℕ → State → TunerView
 tuner_in goals tops s = record { goals = goals; schemes = schemes_in s; tops = tops }
 
--- the moment at which goals are scored after an event, by the state after it: a report after an aggregation, and the metric of
--- a commit that was accepted
+-- the moment at which goals are scored after an event, by the state before it: what an aggregation reports, and the metric of a
+-- commit that was accepted
 abbrev pub moment_after : State → Event → Option Moment
-moment_after s (aggregate words) = Some (Seen (seen s.core.report.rows))
+moment_after s (aggregate words) = Some (Seen (seen (after s (aggregate words)).core.report.rows))
 moment_after s (commit parts) = if was_accepted parts s then option_map (λ value. Metric value) parts.metric else None
 moment_after s _ = None
 
@@ -69,7 +70,7 @@ abbrev pub tune_callbacks : List Goal → Callbacks
 tune_callbacks goals = record {
   first = λ s. tops_of s.notes;
   keeps = tops_kept;
-  puts = λ tops s e. option_map_or (tuned_by (tuner_in goals tops s)) (moment_after s e) [];
+  puts = λ tops s e. option_map_or (tuned_by (tuner_in goals tops (after s e))) (moment_after s e) [];
   writes = λ tops s e. [];
   ends = λ tops s. tuned_text (tuner_in goals tops s);
 }

@@ -25,12 +25,11 @@ abbrev pub tops_after : Option SlotChange → List ℕ → List ℕ
 tops_after None tops = tops
 tops_after (Some c) tops = slice_set tops c.slot (top_after c.scheme (slice_index_or tops c.slot 0))
 
--- Whether a commit was accepted, told from the state after it. The same check passes again after a commit that was accepted, and
--- fails again after one that was refused, which changes nothing.
+-- whether a commit is accepted, by the state before it
 abbrev pub was_accepted : CommitValue → State → Bool
 was_accepted parts s = is_ok (check_of parts s.core)
 
--- the tops after an event of the script, by the state after it: a commit that was accepted changes that of its slot
+-- the tops after an event of the script, by the state before it: a commit that was accepted changes that of its slot
 abbrev pub tops_kept : List ℕ → State → Event → List ℕ
 tops_kept tops s (commit parts) = if was_accepted parts s then tops_after parts.slot tops else tops
 tops_kept tops s _ = tops

@@ -1,13 +1,8 @@
 // What holds of the runs of all scripts with quotas that follow goals. No function here does anything.
-ghost use Rattle.std.specs.Prelude.{◌≡◌, List, is_ok};
+ghost use Rattle.std.specs.Prelude.{List};
 ghost use Rattle.std.specs.List.{AllByRecursion};
 ghost use Rattle.damon_control.specs.Script.{ScriptValue};
 ghost use Rattle.damon_control.specs.Sound.{IsSound};
-ghost use Rattle.damon_core.specs.After.{after};
-ghost use Rattle.damon_core.specs.Commit.{check_of};
-ghost use Rattle.damon_core.specs.Event.{commit};
-ghost use Rattle.damon_core.specs.State.{State};
-ghost use Rattle.live_commit.specs.Commit.{CommitValue};
 ghost use Rattle.quota_goal.specs.declared.goals.Goal.{Goal};
 ghost use Rattle.quota_goal.specs.Goals.{IsGoal};
 ghost use Rattle.script_run.specs.BoundAlong.{IsBoundWith};
@@ -16,13 +11,6 @@ ghost use Rattle.script_run.specs.Choices.{ChoosesBestWith};
 ghost use Rattle.script_run.specs.PutIn.{PutsAreAccepted};
 ghost use Rattle.tune_run.specs.Along.{AreBelowTops, AreTunedWithin, AtEachEventOfAll, FollowTheScore, StayBelowTops, StayWithTheScores, first_tuner};
 ghost use Rattle.tune_run.specs.Callbacks.{tune_callbacks};
-ghost use Rattle.tune_run.specs.Tops.{was_accepted};
-
-/// The state after a commit tells whether it was accepted: exactly then the same check passes again.
-pub fn acceptance_is_told()
-    ensures { (parts : CommitValue) (s : State)
-        → was_accepted parts (after s (commit parts)) ≡ is_ok (check_of parts s.core) }
-{}
 
 /// Along the run of each script within its limits, with any goals, what is put in fits, each state is
 /// bound, and each aggregation applies each active scheme to the best choice within what is left of its
