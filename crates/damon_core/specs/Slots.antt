@@ -1,5 +1,5 @@
 -- What the notes say of a slot: its scheme, whether it is active, its window, its cost, and what its scheme has done.
-use Rattle.std.specs.Prelude.{ℕ, ◌+◌, ◌-◌, ◌^◌, min, Bool, ◌==◌, List, [], ◌∷◌, ◌++◌, map, sum_by, Option, Some, None, if◌then◌else◌, cond}
+use Rattle.std.specs.Prelude.{ℕ, ◌+◌, ◌-◌, ◌^◌, min, Bool, false, ◌==◌, List, [], ◌∷◌, ◌++◌, map, sum_by, Option, Some, None, if◌then◌else◌, cond}
 use Rattle.std.specs.List.{range_with_len}
 use Rattle.std.specs.Option.{option_map}
 use Rattle.damon_types.specs.declared.scheme.Scheme.{Scheme}
@@ -38,20 +38,32 @@ start_of (_ ∷ earlier) slot = start_of earlier slot
 abbrev pub pages_in : List AppliedRun → ℕ
 pages_in runs = sum_by (λ r. r.pages) runs
 
+-- whether a note begins a window of the slot
+abbrev pub turns : ℕ → Note → Bool
+turns slot (turned i tick) = i == slot
+turns slot _ = false
+
+-- whether a note sets the slot
+abbrev pub sets : ℕ → Note → Bool
+sets slot (set i scheme) = i == slot
+sets slot _ = false
+
+-- The sum of a number over the runs of a slot's scheme since the last note that stops it, or over all of them. The number is one of
+-- the rows that matched, the runs of pages, and whether a passing page was not taken.
+abbrev pub sum_of_runs : (ℕ → Note → Bool) → (ℕ → List AppliedRun → Bool → ℕ) → List Note → ℕ → ℕ
+sum_of_runs stops number [] slot = 0
+sum_of_runs stops number (ran i tick tried runs exceeds ∷ earlier) slot =
+    let before = sum_of_runs stops number earlier slot in
+    if i == slot then before + number tried runs exceeds else before
+sum_of_runs stops number (note ∷ earlier) slot = if stops slot note then 0 else sum_of_runs stops number earlier slot
+
 -- the pages that were charged to a slot since its window began: those of all its runs
 abbrev pub charged_of : List Note → ℕ → ℕ
-charged_of [] slot = 0
-charged_of (turned i tick ∷ earlier) slot = if i == slot then 0 else charged_of earlier slot
-charged_of (ran i tick tried runs exceeds ∷ earlier) slot =
-    if i == slot then charged_of earlier slot + pages_in runs else charged_of earlier slot
-charged_of (_ ∷ earlier) slot = charged_of earlier slot
+charged_of notes slot = sum_of_runs turns (λ tried runs exceeds. pages_in runs) notes slot
 
 -- the pages of all runs of a slot, also of those before its window began, and before it was set or dropped
 abbrev pub pages_of_runs : List Note → ℕ → ℕ
-pages_of_runs [] slot = 0
-pages_of_runs (ran i tick tried runs exceeds ∷ earlier) slot =
-    if i == slot then pages_of_runs earlier slot + pages_in runs else pages_of_runs earlier slot
-pages_of_runs (_ ∷ earlier) slot = pages_of_runs earlier slot
+pages_of_runs notes slot = sum_of_runs (λ slot note. false) (λ tried runs exceeds. pages_in runs) notes slot
 
 -- the nanoseconds of all costs that were measured for a slot
 abbrev pub nanos_measured : List Note → ℕ → ℕ
@@ -66,26 +78,15 @@ cost_of notes slot = record { pages = pages_of_runs notes slot; nanos = min (nan
 
 -- how many rows matched, over all runs of a slot since it was set last
 abbrev pub tried_of : List Note → ℕ → ℕ
-tried_of [] slot = 0
-tried_of (set i scheme ∷ earlier) slot = if i == slot then 0 else tried_of earlier slot
-tried_of (ran i tick tried runs exceeds ∷ earlier) slot = if i == slot then tried_of earlier slot + tried else tried_of earlier slot
-tried_of (_ ∷ earlier) slot = tried_of earlier slot
+tried_of notes slot = sum_of_runs sets (λ tried runs exceeds. tried) notes slot
 
 -- how many pages its scheme was applied to
 abbrev pub applied_of : List Note → ℕ → ℕ
-applied_of [] slot = 0
-applied_of (set i scheme ∷ earlier) slot = if i == slot then 0 else applied_of earlier slot
-applied_of (ran i tick tried runs exceeds ∷ earlier) slot =
-    if i == slot then applied_of earlier slot + pages_in runs else applied_of earlier slot
-applied_of (_ ∷ earlier) slot = applied_of earlier slot
+applied_of notes slot = sum_of_runs sets (λ tried runs exceeds. pages_in runs) notes slot
 
 -- in how many of them a passing page was not taken
 abbrev pub exceeds_of : List Note → ℕ → ℕ
-exceeds_of [] slot = 0
-exceeds_of (set i scheme ∷ earlier) slot = if i == slot then 0 else exceeds_of earlier slot
-exceeds_of (ran i tick tried runs exceeds ∷ earlier) slot =
-    if i == slot then exceeds_of earlier slot + cond exceeds 1 0 else exceeds_of earlier slot
-exceeds_of (_ ∷ earlier) slot = exceeds_of earlier slot
+exceeds_of notes slot = sum_of_runs sets (λ tried runs exceeds. cond exceeds 1 0) notes slot
 
 -- a set scheme, by the notes
 abbrev pub set_scheme_of : List Note → ℕ → Scheme → SetScheme

@@ -95,6 +95,13 @@ impl PlainPages {
         })
     }
 
+    /// How many pages have a tag: all or none.
+    pub fn tag_count(&self) -> usize
+        ensures { result ≡ length self.now.tags }
+    {
+        self.tags.len()
+    }
+
     /// The tag of a page, if tags are kept.
     pub fn tag(&self, page: u32) -> u64
         requires { page < length self.now.tags }

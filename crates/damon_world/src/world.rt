@@ -1,4 +1,4 @@
-ghost use Rattle.std.specs.Prelude.{◌≡◌, ◌+◌, ◌-◌, ◌*◌, ◌/◌, ◌^◌, ◌≤◌, ◌<◌, [], ◌∷◌, min, length, ◌++◌, IfOk, OnErr, slice_index, vec_capacity, vec_len};
+ghost use Rattle.std.specs.Prelude.{◌≡◌, ◌↔◌, ◌+◌, ◌-◌, ◌*◌, ◌/◌, ◌^◌, ◌≤◌, ◌<◌, true, [], ◌∷◌, min, length, ◌++◌, IfOk, OnErr, slice_index, vec_capacity, vec_len};
 ghost use Rattle.damon_types.specs.Space.{pages_of};
 ghost use Rattle.live_commit.specs.Commit.{commit_value};
 ghost use Rattle.live_commit.specs.SetupView.{value_of};
@@ -6,6 +6,7 @@ ghost use Rattle.damon_core.specs.Commit.{commit_answer, core_after_commit};
 ghost use Rattle.damon_core.specs.State.{State, opening, opening_core, opening_notes, row_count};
 ghost use Rattle.damon_core.specs.Event.{IsLoading, IsObserving, load_index, commit as commit_event, touch as touch_event};
 ghost use Rattle.damon_core.specs.Makes.{Makes, MakesByHit};
+ghost use Rattle.damon_core.specs.Note.{last_clear};
 ghost use Rattle.damon_core.specs.Pass.{IsInPass};
 ghost use Rattle.damon_core.specs.Reached.{Reached, ReachedByHit};
 ghost use Rattle.sampler.specs.Draws.{drawn, drawn_rest};
@@ -125,12 +126,20 @@ impl<R: Jump + Drop> World<R> {
         &self.monitor
     }
 
+    /// Whether the world keeps the tag of each page, so that [`World::touch`] may be called.
+    pub fn keeps_tags(&self) -> bool
+        ensures { (result ≡ true) ↔ KeepsTags self.now }
+    {
+        self.pages.tag_count() == self.monitor.space().pages() as usize
+    }
+
     /// Touches a page of the space, and returns its tag: the pass that cleared it last, 0 if none did. The
-    /// world keeps tags.
+    /// world keeps tags ([`World::keeps_tags`]).
     pub fn touch(&mut self, page: u32) -> u64
         requires page { page < pages_of self.old.monitor.core.space }
         requires tags { KeepsTags self.old }
         ensures tag { result ≡ slice_index self.old.pages.tags page }
+        ensures noted { (s : State) → StandsFor self.old s → result ≡ last_clear s.notes page }
         ensures monitor { self.new.monitor ≡ self.old.monitor }
         ensures source { self.new.source ≡ self.old.source }
         ensures event { Makes StandsFor self.old self.new (touch_event page ∷ []) }

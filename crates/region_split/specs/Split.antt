@@ -15,13 +15,17 @@ three_parts limits count first second r =
     let at = cut_place r.pages first in
     if may_cut limits count r.pages at then left_side at r ∷ two_parts limits (count + 1) second (right_side at r) else r ∷ []
 
--- the parts of the rows from row i on, three of each where three are wanted and else two, `count` being the number of rows now: these
--- rows, and the parts of the rows before them
+-- the parts of row i, three where three are wanted and else two, by the words 2 i and 2 i + 1; `count` is the number of rows now
+abbrev pub parts_of : SplitLimits → Bool → List ℕ → ℕ → ℕ → Row → List Row
+parts_of limits three words i count r =
+    let first = slice_index words (2 * i) in
+    if three then three_parts limits count first (slice_index words (2 * i + 1)) r else two_parts limits count first r
+
+-- the parts of the rows from row i on, `count` being the number of rows now: these rows, and the parts of the rows before them
 abbrev pub split_from : SplitLimits → Bool → List ℕ → ℕ → ℕ → List Row → List Row
 split_from limits three words count i [] = []
 split_from limits three words count i (r ∷ rows) =
-    let first = slice_index words (2 * i) in
-    let new = if three then three_parts limits count first (slice_index words (2 * i + 1)) r else two_parts limits count first r in
+    let new = parts_of limits three words i count r in
     new ++ split_from limits three words (count + length new - 1) (i + 1) rows
 
 -- whether three parts are wanted: the number of rows is that at the start of the previous split, and is below a third of the most

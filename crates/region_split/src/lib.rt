@@ -9,5 +9,5 @@ mod laws;
 /// The pass over all rows.
 mod split;
 
-pub use laws::split_rows_are_kept;
+pub use laws::{split_rows_are_kept, splits_follow_rule};
 pub use split::split_all;
