@@ -10,7 +10,7 @@ use Rattle.snapshot_print.specs.Forms.{writing_of}
 use Rattle.script_run.specs.Callbacks.{Callbacks, no_callbacks}
 use Rattle.script_run.specs.Course.{going_with, with_puts}
 use Rattle.script_run.specs.Going.{onward}
-use Rattle.script_run.specs.RunWith.{own_events, start_with, text_from}
+use Rattle.script_run.specs.RunWith.{own_events, report_with, start_with, text_from}
 use Rattle.script_run.specs.Player.{AnyState, IsAt, PlayerOf, PlayerView, left_events}
 
 -- The player made the first of the script's own events, with those that its callbacks put in, and all these fit from its
@@ -28,3 +28,8 @@ pub record IsOnItsWayWith {R C : Type 0} (stream : R → Stream) (c : Callbacks)
 -- the same without callbacks
 abbrev pub IsOnItsWay : {R : Type 0} → (R → Stream) → ScriptValue → Form → PlayerView R → List ℕ → Type 0
 IsOnItsWay stream s f p text = IsOnItsWayWith stream no_callbacks AnyState s f p text
+
+-- a text that a player still gives: after what it wrote so far it ends the report of its script
+abbrev pub IsLeftWith : {R C : Type 0} → (R → Stream) → Callbacks → (C → List ℕ → State → Type 0) → PlayerOf R C → List ℕ → Type 0
+IsLeftWith stream c stands_for p text = (s : ScriptValue) × (f : Form) × (written : List ℕ)
+    × IsOnItsWayWith stream c stands_for s f p written × (written ++ text ≡ report_with c (writing_of f) s)

@@ -18,6 +18,8 @@ ghost use Rattle.script_run.specs.Way.{IsOnItsWay, IsOnItsWayWith};
 mod last_line;
 /// One command of a player after another.
 mod one_command;
+/// The report of a player as a text that is handed over.
+mod source;
 
 use crate::callbacks::{Callbacks, NoCallbacks};
 use crate::part::{Part, Start, Until, is_done, start_of, touched_page};
