@@ -56,8 +56,7 @@ pub(crate) fn each_run_follows_goals()
     damon_control::scripts_are_sound();
     trace_gen::generated_scripts_are_sound();
     line_text::number_is_decimal();
-    tune_run::tuned_runs_are_bound();
-    tune_run::bytes_follow_their_goals();
+    tune_run::each_tuned_run_follows_its_goals();
 }
 
 // The numbers of the heat tables of a journal add up.

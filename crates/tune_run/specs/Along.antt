@@ -8,9 +8,12 @@ use Rattle.damon_core.specs.Reached.{run}
 use Rattle.damon_core.specs.State.{opening}
 use Rattle.damon_control.specs.Script.{ScriptValue}
 use Rattle.damon_control.specs.Sound.{IsSound}
+use Rattle.script_run.specs.BoundAlong.{IsBoundWith}
 use Rattle.script_run.specs.Callbacks.{put_after}
+use Rattle.script_run.specs.Choices.{ChoosesBestWith}
 use Rattle.script_run.specs.Course.{Course, course_after, going_with}
 use Rattle.script_run.specs.Going.{onward}
+use Rattle.script_run.specs.PutIn.{PutsAreAccepted}
 use Rattle.script_run.specs.RunWith.{own_events, start_with}
 use Rattle.quota_goal.specs.declared.goals.Goal.{Goal}
 use Rattle.quota_goal.specs.declared.moment.Moment.{Moment}
@@ -24,10 +27,6 @@ abbrev pub AtEachEvent : List Goal → ScriptValue → (Course → Event → Typ
 AtEachEvent goals s P =
     let c = tune_callbacks goals in
     (made rest : List Event) (e : Event) → own_events c s ≡ made ++ e ∷ rest → P (onward (going_with c) (start_with c s) made) e
-
--- the same of each script and goals within their limits
-abbrev pub AtEachEventOfAll : (List Goal → Course → Event → Type 0) → Type 0
-AtEachEventOfAll P = (goals : List Goal) (s : ScriptValue) → AllByRecursion IsGoal goals → IsSound s → AtEachEvent goals s (P goals)
 
 -- what is put in after an event of the script
 abbrev pub put_in : List Goal → Course → Event → List Event
@@ -136,3 +135,23 @@ StayWithTheScores goals r e =
     (es : List Event) (g : Goal) (score bytes new : ℕ) → goals_of goals g.slot ≡ g ∷ [] → score_at g r e ≡ Some score
     → bytes_in goals q g.slot ≡ Some bytes → bytes_in goals (onward (going_with c) q es) g.slot ≡ Some new
     → (ScoresAre goals g (λ n. n < g.target) q es → bytes ≤ new) × (ScoresAre goals g (λ n. g.target ≤ n) q es → new ≤ bytes)
+
+-- ---- all of it
+
+-- Along the run of the script with quotas that follow the goals: each state is bound, and each aggregation makes the best choices. Each
+-- commit that is put in is accepted. The bytes in force of a tunable slot are at most its top, at first and after each event. Directly
+-- after a slot was scored they lie between the least low and the least high bound of its scored goals, each held down by its top. Where
+-- it has one such goal, bytes within its bounds do not fall at a score below the target, and do not rise at or above it.
+pub record IsTunedRun (goals : List Goal) (s : ScriptValue) : Type 0 where
+  pub bound : IsBoundWith (tune_callbacks goals) s
+  pub choices : ChoosesBestWith (tune_callbacks goals) s
+  pub accepted : PutsAreAccepted (tune_callbacks goals) s
+  pub first : AreBelowTops (first_tuner goals s)
+  pub tops : AtEachEvent goals s (StayBelowTops goals)
+  pub bounds : AtEachEvent goals s (AreTunedWithin goals)
+  pub follow : AtEachEvent goals s (FollowTheScore goals)
+  pub stay : AtEachEvent goals s (StayWithTheScores goals)
+
+-- the same for each script and goals within their limits
+abbrev pub EachTunedRun : Type 0
+EachTunedRun = (goals : List Goal) (s : ScriptValue) → AllByRecursion IsGoal goals → IsSound s → IsTunedRun goals s

@@ -11,6 +11,6 @@ mod named;
 /// Byte quotas that follow goals along the run of a script.
 mod tuned;
 
-pub use laws::{bytes_follow_their_goals, tuned_runs_are_bound};
+pub use laws::each_tuned_run_follows_its_goals;
 pub use named::Named;
 pub use tuned::TunedQuotas;
