@@ -25,7 +25,7 @@ use script_run::{Callbacks, NoCallbacks, open_player_with};
 use snapshot_print::Form;
 use std::alloc::Global;
 use std::marker::Brand;
-use text_io::{Filled, write_all};
+use text_io::pump;
 use tune_run::{Named, TunedQuotas};
 
 // Runs a script, and hands its report to the sink.
@@ -114,18 +114,6 @@ fn write_played<C: Callbacks + Drop, K: Sink>(
         (report_with C.callbacks (writing_of form) (said_by script)) }
 {
     let mut player = open_player_with(alloc, script, form, callbacks)?;
-    let mut piece = Vec::new(alloc);
-    'pieces: loop {
-        match player.fill(alloc, &mut piece)? {
-            Filled::Piece => {
-                write_all(sink, &piece)?;
-                piece.clear();
-            }
-            Filled::End => {
-                player.finish(alloc, &mut piece)?;
-                write_all(sink, &piece)?;
-                return Ok(());
-            }
-        }
-    }
+    pump(alloc, &mut player, sink)?;
+    Ok(())
 }

@@ -2,4 +2,3 @@
 pub use Rattle.script_run.proofs.Alone.{report-alone}
 pub use Rattle.script_run.proofs.Continuing.{commands_events-more, events_text-append, onward-state}
 pub use Rattle.script_run.proofs.PlayedLemmas.{played-next, played-report, played-state, played-text}
-pub use Rattle.script_run.proofs.Ways.{way-finished-with, way-on-with, way-prefix-with}
