@@ -80,6 +80,9 @@ def rows_made(study: Study, file: Path, program: Program, machine: Machine, know
     whole = plan_of(str(file), program.path)
     plan, path = restricted(whole, study.only), study.out / "runs" / file.stem / f"{program.name}.csv"
     path.parent.mkdir(parents=True, exist_ok=True)
+    wanted = max((int(passes) for _, passes in whole.intervals), default=0)
+    if program.intervals < wanted:
+        print(f"note: {program.name} has {program.intervals} intervals for {wanted} passes: keep it with a smaller --grain", file=sys.stderr)
     searched(plan, Points(plan, None, 1), path, machine, known)
     return list(found_rows(plan, shown_settings(whole), program, path))
 
