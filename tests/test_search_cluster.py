@@ -157,7 +157,7 @@ class Cluster(unittest.TestCase):
         self.worker(address)
         self.worker(address)
         self.wait_until(lambda: self.workers_known() == 2)
-        words = ["--programs", TOP / f"study/traces/{SMALLEST}.cut", "--plan", "fixed", "--plan", "goals", "--out", self.folder]
+        words = ["--programs", str(TOP / f"study/traces/{SMALLEST}.cut"), "--plan", "fixed", "--plan", "goals", "--out", str(self.folder)]
         ran = subprocess.run([interpreter_with("distributed") or "", TOOLS / "study.py", *words, "--cluster", address], capture_output=True,
                              timeout=SECONDS, env={**os.environ, "DAMON": str(PROGRAM)})
         self.assertEqual(ran.returncode, 0, ran.stderr)
