@@ -74,7 +74,7 @@ def scripts_of(path: Path, folder: Path) -> tuple[str, list[bytes]]:
     """The command of a plan, and the scripts of all its runs."""
     plan = plan_of(str(path))
     points = Points(plan, None, 1)
-    workloads = workloads_of(plan, points, folder)
+    workloads = workloads_of(plan, points, folder, {})
     runs = map(points.run, range(points.runs))
     return plan.command, [script_of(plan, workloads[point.key(plan.are_traces)], point, seed) for point, seed in runs]
 

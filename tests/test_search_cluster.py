@@ -1,7 +1,7 @@
 #!/usr/bin/env python3
-"""Tests of tools/search.py --cluster: a scheduler and two workers on this machine, one of which is killed half way.
+"""Tests of --cluster of tools/search.py and tools/study.py: a scheduler and two workers on this machine, one of which is killed half way.
 
-The tool runs with an interpreter that has dask.distributed: for Debian's `apt-get install python3-distributed` installs it.
+The tools run with an interpreter that has dask.distributed: for Debian's `apt-get install python3-distributed` installs it.
 Without one these tests are skipped.
 """
 from __future__ import annotations
@@ -18,7 +18,7 @@ import unittest
 from pathlib import Path
 from typing import Callable
 
-from tool_runs import DEBIANS_PYTHON, PROGRAM, SECONDS, TOOLS, Refusals, interpreter_with, need_program, random_trace, run
+from tool_runs import DEBIANS_PYTHON, PROGRAM, SECONDS, TOOLS, TOP, Refusals, interpreter_with, need_program, random_trace, run
 
 from searching.cluster import Sent, archive, has_package
 from searching.plan import plan_of
@@ -39,6 +39,8 @@ seed = [1, 2]
 age = [1, 3]
 """
 RUNS = 160
+SMALLEST = "sort"
+"""The program of the study whose runs are made again."""
 
 
 def setUpModule() -> None:
@@ -144,8 +146,27 @@ class Cluster(unittest.TestCase):
         address = self.scheduler()
         ran = subprocess.run([interpreter_with("distributed") or "", TOOLS / TOOL, self.plan, self.folder / "a.csv", "--cluster", address],
                              capture_output=True, timeout=SECONDS, env={**os.environ, "DAMON": str(PROGRAM)})
-        self.assertEqual((ran.returncode, ran.stderr.decode()),
-                         (2, f"search.py: --cluster {address}: the scheduler has no worker\n"))
+        said = ran.stderr.decode().splitlines()
+        self.assertEqual((ran.returncode, said[0]), (2, f"search.py: --cluster {address}: the scheduler has no worker"))
+        # On a busy machine dask.distributed says behind it that it waited too long for its own end.
+        self.assertNotIn("Traceback", "\n".join(said))
+
+    def test_a_study(self) -> None:
+        """The runs of two plans on a program come back as the rows that are kept."""
+        address = self.scheduler()
+        self.worker(address)
+        self.worker(address)
+        self.wait_until(lambda: self.workers_known() == 2)
+        words = ["--programs", str(TOP / f"study/traces/{SMALLEST}.cut"), "--plan", "fixed", "--plan", "goals", "--out", str(self.folder)]
+        ran = subprocess.run([interpreter_with("distributed") or "", TOOLS / "study.py", *words, "--cluster", address], capture_output=True,
+                             timeout=SECONDS, env={**os.environ, "DAMON": str(PROGRAM)})
+        self.assertEqual(ran.returncode, 0, ran.stderr)
+        for name in ("programs", "fixed", "goals"):
+            header, *kept = (TOP / f"study/results/{name}.csv").read_text().splitlines()
+            at = header.split(",").index("program")
+            wanted = [line for line in kept if line.split(",")[at] == SMALLEST]
+            self.assertGreater(len(wanted), 0)
+            self.assertEqual((self.folder / f"results/{name}.csv").read_text().splitlines(), [header, *wanted])
 
 
 class Sending(unittest.TestCase):

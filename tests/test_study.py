@@ -12,7 +12,7 @@ from typing import Iterator
 
 from pages import BLOCK, Page, is_a_command
 from test_picture import SVG
-from tool_runs import TOP, Refusals, check_same, need_program, run
+from tool_runs import TOP, Refusals, check_same, need_program, random_trace, run, script_of
 
 from blocks import with_blocks
 from studying.findings import FINDINGS, Curve, Results
@@ -87,6 +87,18 @@ class Refused(InAFolder):
         (self.folder / "a.trace").write_text("nothing")
         for path, part in ((self.folder, "has no kept trace"), (self.folder / "a.trace", "is no kept trace")):
             self.refused(TOOL, [part], b"", "--programs", str(path), "--out", str(self.folder / "out"))
+
+
+class Own(InAFolder):
+    def test_a_short_trace_is_told_of(self) -> None:
+        trace = self.folder / "mine.cut"
+        script_of(random_trace(1, 1500), "--interval", "10", "--keep", str(trace))
+        made = run(TOOL, "--programs", str(trace), "--plan", "fixed", "--only", "max=100", "--out", str(self.folder), "--jobs", "1")
+        self.assertEqual(made.returncode, 0, made.stderr)
+        self.assertRegex(made.stderr.decode(), r"note: mine has 1\d\d intervals for 2000 passes: keep it with a smaller --grain\n")
+        (facts,) = csv.DictReader(self.lines(self.folder / "results/programs.csv"))
+        self.assertEqual((facts["program"], facts["interval"]), ("mine", "10"))
+        self.assertEqual([row["runs"] for row in csv.DictReader(self.lines(self.folder / "results/fixed.csv"))], ["5"])
 
 
 class Kept(InAFolder):

@@ -78,7 +78,7 @@ def search(options: argparse.Namespace) -> list[str]:
     plan, path = plan_of(options.plan, options.trace), Path(options.runs)
     points = Points(plan, options.random, options.draw)
     try:
-        made = searched(plan, points, path, Machine(options.jobs, options.cluster, options.timeout))
+        made = searched(plan, points, path, Machine(options.jobs, options.cluster, options.timeout), {})
     except KeyboardInterrupt:
         # The file tells how many rows there are: the interrupt may have come between a row and its count.
         if path.exists():

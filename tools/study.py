@@ -23,11 +23,13 @@ TOP = Path(__file__).resolve().parent.parent
 EXAMPLE = """\
 example:
   tools/study.py
-  tools/trace_to_script.py --keep out/mine.cut TRACE > out/mine.damon
+  tools/trace_to_script.py --interval 10000 --grain 1000 --keep out/mine.cut TRACE > out/mine.damon
   tools/study.py --programs out/mine.cut --out out/mine
 
 The first command repeats the whole study of docs/STUDY.md: the plans in study/plans over the programs in
 study/traces. The other two do the same with a trace of your own: out/mine/pictures has its panels.
+
+A trace of less than four million accesses needs a smaller --grain, since plans have up to 4,000 passes.
 
 The folder gets `runs`, with a file of runs for each plan and program; `results`, with the mean, the least
 and the greatest of each measure over the seeds; and `pictures`. A study can be stopped at any moment, and

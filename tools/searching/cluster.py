@@ -66,7 +66,7 @@ def distributed() -> Any:
         pass
     if sys.executable != DEBIANS_PYTHON and has_package(DEBIANS_PYTHON):
         raise UsageError(f"--cluster needs dask.distributed, which {sys.executable} has not: "
-                         f"run {DEBIANS_PYTHON} tools/search.py ..")
+                         f"run {DEBIANS_PYTHON} tools/{Path(sys.argv[0]).name} ..")
     raise UsageError("--cluster needs dask.distributed: on Debian `apt-get install python3-distributed` installs it "
                      f"for {DEBIANS_PYTHON}")
 

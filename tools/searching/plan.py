@@ -47,6 +47,10 @@ class Source(NamedTuple):
     gap: int
 
 
+Reading = tuple[Path, Source, int | None, float, int | None]
+"""The folder of a trace, how it is read, the version of the rules, what is hot, and the target that is measured."""
+
+
 class Plan(NamedTuple):
     """What is run, and what is measured."""
 
@@ -84,6 +88,11 @@ class Plan(NamedTuple):
     def columns(self) -> list[str]:
         """The names of what makes up a run."""
         return ["workload", *SETTINGS, *self.values, SEED]
+
+    @property
+    def reading(self) -> Reading:
+        """How a trace becomes a workload: plans with the same have the same workloads."""
+        return self.folder, self.source, self.version, self.hot, self.target
 
     @property
     def is_tuned_memory(self) -> bool:

@@ -17,13 +17,17 @@ from .finding import answers
 from .handing import Pool, in_order
 from .limits import check_limits
 from .local import local_pool
-from .plan import Plan
+from .plan import Plan, Reading
 from .points import Points
 from .remaining import Remaining
 from .runs import Inputs, first_cells
 from .table import DONE, STATUS, Row, RunsFile
 from .traces import trace_workloads
 from .workloads import Key, Workload, script_workload
+
+
+Known = dict[Reading, dict[Key, Workload]]
+"""The workloads of traces that were read already, for each way of reading: plans of a study share them."""
 
 
 class Machine(NamedTuple):
@@ -48,12 +52,15 @@ class Made(NamedTuple):
     """Those of the new ones that have another status than ok."""
 
 
-def workloads_of(plan: Plan, points: Points, folder: Path) -> dict[Key, Workload]:
-    """The workloads of all points, each made once. Raises UsageError."""
+def workloads_of(plan: Plan, points: Points, folder: Path, known: Known) -> dict[Key, Workload]:
+    """The workloads of all points, each made once and then known. Raises UsageError."""
     found: dict[Key, Workload] = {}
     for name, keys in points.keys(plan.are_traces).items():
         if plan.are_traces:
-            found.update(trace_workloads(plan, name, keys, folder))
+            read = known.setdefault(plan.reading, {})
+            if unread := [key for key in keys if key not in read]:
+                read.update(trace_workloads(plan, name, unread, folder))
+            found.update((key, read[key]) for key in keys)
         else:
             found.update(dict.fromkeys(keys, script_workload(plan, name)))
     return found
@@ -101,9 +108,9 @@ class Runs:
         return first_cells(point, seed, self.inputs.workloads[point.key(self.inputs.plan.are_traces)])
 
 
-def searched(plan: Plan, points: Points, path: Path, machine: Machine) -> Made:
+def searched(plan: Plan, points: Points, path: Path, machine: Machine, known: Known) -> Made:
     """Makes all rows that are needed and not in the file of runs. Raises UsageError."""
-    workloads = workloads_of(plan, points, path.parent)
+    workloads = workloads_of(plan, points, path.parent, known)
     check_limits(plan, points, workloads)
     inputs = Inputs(plan, points, workloads, str(program().resolve()), machine.timeout)
     answer: list[str] = []

@@ -9,7 +9,7 @@ from typing import Callable, Iterable, Iterator, Mapping, NamedTuple, Sequence
 from common import UsageError
 from units import PAGE_BITS
 
-from .rows import PRICES, PROGRAM, RUNS, WORTH, Found, Spread, number_text, of_program, read_rows, where
+from .rows import GREATEST, LEAST, PRICES, PROGRAM, RUNS, WORTH, Found, Spread, number_text, of_program, read_rows, where
 
 Cells = Iterator[list[str]]
 PRICE = 10
@@ -96,6 +96,15 @@ def adapting_rows(results: Results) -> list[Found]:
                    for row in where(results.rows("least"), aggr=AGGR) if row.settings["min"] != "10"]
 
 
+AGAINST = ("mean", "greatest", "least")
+"""What the mean, the least and the greatest of a share are compared with, so that the difference has its whole spread."""
+
+
+def with_ends(name: str) -> list[str]:
+    """The columns of a number with its spread over seeds."""
+    return [name, name + LEAST, name + GREATEST]
+
+
 def fixed_curves(results: Results, part: str) -> dict[str, Curve]:
     """For each program what fixed regions find, by the least, the mean or the greatest over seeds. To check each page finds all."""
     return {program: Curve([*((row.mean("checks"), getattr(row.measures["hot_found"], part)) for row in rows if row.has("hot_found")),
@@ -105,19 +114,19 @@ def fixed_curves(results: Results, part: str) -> dict[str, Curve]:
 
 def adapting_cells(results: Results) -> Cells:
     """Of each point with regions that adapt what fixed regions find with as many checks, and how many they need to find as much."""
-    yield [PROGRAM, "min", "max", "checks", "hot_found", "fixed_found", "gain", "gain least", "gain greatest", "fixed_checks", "times"]
-    means, least, greatest = (fixed_curves(results, part) for part in Spread._fields)
+    yield [PROGRAM, "min", "max", "checks", "hot_found", "fixed_found", *with_ends("gain"), "fixed_checks", *with_ends("times")]
+    fixed = [fixed_curves(results, part) for part in AGAINST]
     for program, rows in of_program(adapting_rows(results)).items():
         for row in rows:
             found = row.measures["hot_found"]
             if found is None:
                 continue
             checks = row.mean("checks")
-            others = [curves[program].gain(checks) for curves in (means, greatest, least)]
+            others = [curves[program].gain(checks) for curves in fixed]
             gains = [mine - its if its is not None else None for mine, its in zip(found, others)]
-            needed = means[program].price(found.mean)
+            needed = [curves[program].price(share) for curves, share in zip(fixed, found)]
             yield [program, row.settings["min"], row.settings["max"], f"{checks:.2f}", f"{found.mean:.4f}", text(others[0]),
-                   *map(text, gains), text(needed, 2), text(needed / checks if needed else None, 2)]
+                   *map(text, gains), text(needed[0], 2), *(text(one / checks if one else None, 2) for one in needed)]
 
 
 WANTED = (0.5, 0.8, 0.9)
@@ -126,13 +135,14 @@ WANTED = (0.5, 0.8, 0.9)
 
 def needed_cells(results: Results) -> Cells:
     """What share of the pages a pass has to check to find so much of what is hot, with the best `min` and `max`, and with fixed regions."""
-    yield [PROGRAM, "wanted", "adapting", "fixed"]
-    fixed = fixed_curves(results, "mean")
+    yield [PROGRAM, "wanted", *with_ends("adapting"), *with_ends("fixed")]
+    fixed = [fixed_curves(results, part) for part in AGAINST]
     for program, rows in of_program(adapting_rows(results)).items():
         pages = results.pages[program]
-        curve = Curve((row.mean("checks"), row.mean("hot_found")) for row in rows if row.has("hot_found"))
+        adapting = [Curve((row.mean("checks"), getattr(row.measures["hot_found"], part)) for row in rows if row.has("hot_found"))
+                    for part in AGAINST]
         for wanted in WANTED:
-            prices = (one.price(wanted) for one in (curve, fixed[program]))
+            prices = (curve.price(wanted) for curve in (*adapting, *(curves[program] for curves in fixed)))
             yield [program, str(wanted), *(text(price / pages if price else None) for price in prices)]
 
 
@@ -172,7 +182,7 @@ def choice_of(rows: Sequence[Found], price: int) -> Choice:
 def regret_cells(results: Results) -> Cells:
     """For each price and program the best setting, the one for all programs, and how much less that one is worth."""
     parts = ("age", "quota", "out", "refaults", "worth")
-    yield ["price", PROGRAM, *(f"own {part}" for part in parts), *(f"one {part}" for part in parts), "regret", "regret least", "regret greatest"]
+    yield ["price", PROGRAM, *(f"own {part}" for part in parts), *(f"one {part}" for part in parts), *with_ends("regret")]
     for price in PRICES:
         choice = choice_of(results.rows("reclaim"), price)
         for program, own in choice.own.items():
@@ -209,17 +219,19 @@ def goal_cells(results: Results) -> Cells:
     """Of each quota and goal what it puts out and what comes back; what fixed quotas put out where as much comes back; and how much
     less it is worth than the best fixed quota of the program."""
     worth = f"{WORTH}{PRICE}"
-    yield ["kind", "value", PROGRAM, "out", "refaults", "worth", "worth least", "worth greatest", "fixed_out", "gain", "regret"]
+    yield ["kind", "value", PROGRAM, "out", "refaults", *with_ends("worth"), "fixed_out", *with_ends("gain"), *with_ends("regret")]
     rows = [row for row in goal_rows(results) if row[2].has(worth)]
     quotas = of_program(row for kind, _, row in rows if kind == "quota")
     best = {program: max(row.mean(worth) for row in own) for program, own in quotas.items()}
     curves = {program: Curve((row.mean("refaults"), row.mean("out")) for row in own) for program, own in quotas.items()}
     for kind, value, row in sorted(rows, key=lambda one: (list(KINDS).index(one[0]), int(one[1]), one[2].program)):
-        found, out, refaults = row.measures[worth], row.mean("out"), row.mean("refaults")
-        assert found is not None
-        fixed = None if kind == "quota" else curves[row.program].gain(refaults)
-        yield [kind, value, row.program, f"{out:.4f}", f"{refaults:.6f}", *map(text, found), text(fixed),
-               text(None if fixed is None else out - fixed), text(best[row.program] - found.mean)]
+        found, out, refaults = (row.measures[name] for name in (worth, "out", "refaults"))
+        assert found and out and refaults
+        # Who has fewer refaults is compared with fixed quotas that put out less.
+        fixed = [None if kind == "quota" else curves[row.program].gain(getattr(refaults, part)) for part in AGAINST]
+        yield [kind, value, row.program, f"{out.mean:.4f}", f"{refaults.mean:.6f}", *map(text, found), text(fixed[0]),
+               *(text(None if its is None else mine - its) for mine, its in zip(out, fixed)),
+               *(text(best[row.program] - getattr(found, part)) for part in AGAINST)]
 
 
 # ---- over all programs
@@ -229,17 +241,20 @@ PLANS = ("accuracy", "interval", "least", "fixed", "reclaim", "goals", "marks")
 
 
 def summary_cells(results: Results) -> Cells:
-    """Of each point of each plan the mean, the least and the greatest of each measure over the programs that have it."""
-    yield ["plan", "settings", "measure", "programs", "mean", "least", "greatest"]
+    """Of each point of each plan the mean, the least and the greatest of each measure over the programs that have it, and the means of
+    the least and of the greatest over seeds."""
+    yield ["plan", "settings", "measure", "programs", "mean", "least", "greatest", "seeds least", "seeds greatest"]
     for plan in PLANS:
         alike: dict[str, list[Found]] = {}
         for row in results.rows(plan):
             alike.setdefault(settings_text(row), []).append(row)
         for settings, rows in alike.items():
             for name in rows[0].measures:
-                numbers = [row.mean(name) for row in rows if row.has(name)]
-                if numbers:
-                    yield [plan, settings, name, str(len(numbers)), *(number_text(name, number) for number in over(numbers))]
+                found = [spread for row in rows if (spread := row.measures[name])]
+                if found:
+                    ends = (mean(spread.least for spread in found), mean(spread.greatest for spread in found))
+                    numbers = (*over([spread.mean for spread in found]), *ends)
+                    yield [plan, settings, name, str(len(found)), *(number_text(name, number) for number in numbers)]
     yield from gain_cells(results)
 
 
@@ -254,13 +269,20 @@ def gain_cells(results: Results) -> Cells:
                 alike.setdefault(" ".join(f"{key}={cells[key]}" for key in keys), []).append(cells)
         for settings, some in alike.items():
             for name in names:
-                numbers = [float(cells[name]) for cells in some if cells[name]]
-                if numbers:
-                    yield [file, settings, name, str(len(numbers)), *map(text, over(numbers))]
+                found = [[cells[column] for column in with_ends(name)] for cells in some if cells[name]]
+                if found:
+                    ends = (mean(map(float, end)) if all(end) else None for end in list(zip(*found))[1:])
+                    yield [file, settings, name, str(len(found)), *map(text, over([float(cells[0]) for cells in found])), *map(text, ends)]
 
 
 def over(numbers: Sequence[float]) -> Spread:
-    return Spread(sum(numbers) / len(numbers), min(numbers), max(numbers))
+    return Spread(mean(numbers), min(numbers), max(numbers))
+
+
+def mean(numbers: Iterable[float]) -> float:
+    """The mean, as the rows have it: other sums round otherwise."""
+    found = list(numbers)
+    return sum(found) / len(found)
 
 
 def settings_text(row: Found) -> str:

@@ -1,9 +1,11 @@
 """The tables of the page, from the results. A cell has a mean, and in brackets the least and the greatest over seeds."""
 from __future__ import annotations
 
-from typing import Iterable, Sequence
+from typing import Iterable, Mapping, Sequence
 
-from .findings import AGGR, NO_QUOTA, PRICE, Results
+from units import PAGE_BITS
+
+from .findings import AGGR, NO_QUOTA, PRICE, Results, with_ends
 from .rows import Found, Spread, where
 
 START_MAX, LARGE_MAX, LARGE_MIN = 200, 1000, 100
@@ -34,9 +36,9 @@ def spread(found: Spread | None, digits: int = 0) -> str:
 
 
 def programs(results: Results) -> list[str]:
-    rows = [[name, f"{int(cells['accesses']) / 1e6:.1f}", cells["targets"], f"{int(cells['pages']):,}", share(float(cells["accessed"]), 1),
-             share(float(cells["hot"]), 1), cells["hot_run"]] for name, cells in results.facts.items()]
-    return table(["program", "million accesses", "targets", "pages", "accessed", "hot", "hot pages in a run"], rows)
+    rows = [[name, cells["targets"], f"{int(cells['pages']):,}", share(float(cells["accessed"]), 1), share(float(cells["hot"]), 1),
+             cells["hot_run"]] for name, cells in results.facts.items()]
+    return table(["program", "targets", "pages", "accessed", "hot", "hot pages in a run"], rows)
 
 
 def one(rows: Sequence[Found], **settings: object) -> Found:
@@ -64,25 +66,22 @@ def cost_and(row: Found) -> list[str]:
 
 def adapting(results: Results) -> list[str]:
     """What regions that stay find with as many checks."""
-    rows = [[cells["program"], whole(cells["checks"]), share(float(cells["hot_found"])), shown(cells["fixed_found"]), gain_of(cells),
-             whole(cells["fixed_checks"]), cells["times"] or "-"]
+    rows = [[cells["program"], f"{float(cells['checks']):.0f}", shown(cells["fixed_found"]),
+             with_spread(cells, with_ends("gain"), 100, "+.0"), with_spread(cells, with_ends("times"), 1, ".1")]
             for cells in results.table("adapting") if (cells["min"], cells["max"]) == ("10", str(START_MAX))]
-    return table(["program", "checks a pass", "found", "fixed regions find", "gain, in points", "fixed regions need", "times"], rows)
-
-
-def whole(text: str) -> str:
-    return f"{float(text):.0f}" if text else "-"
+    return table(["program", "checks a pass", "fixed regions find", "gain, in points", "fixed regions need, in times"], rows)
 
 
 def shown(text: str) -> str:
     return share(float(text)) if text else "-"
 
 
-def gain_of(cells: dict[str, str]) -> str:
-    if not cells["gain"]:
+def with_spread(cells: Mapping[str, str], columns: Sequence[str], unit: float, digits: str) -> str:
+    """A number, its least and its greatest, each some times a unit and with so many digits; nothing where one is not there."""
+    if not all(cells.get(name) for name in columns):
         return "-"
-    mean, least, greatest = (100 * float(cells[name]) for name in ("gain", "gain least", "gain greatest"))
-    return f"{mean:+.0f} ({least:+.0f} to {greatest:+.0f})"
+    mean, least, greatest = (f"{unit * float(cells[name]):{digits}f}" for name in columns)
+    return f"{mean} ({least} … {greatest})"
 
 
 def reclaim(results: Results) -> list[str]:
@@ -90,8 +89,8 @@ def reclaim(results: Results) -> list[str]:
     rows = []
     for cells in results.table("regret"):
         if cells["price"] == str(PRICE):
-            rows.append([cells["program"], setting(cells, "own"), shown(cells["own out"]), share(float(cells["own refaults"]), 2),
-                         shown(cells["one out"]), share(float(cells["one refaults"]), 2), regret_of(cells)])
+            rows.append([cells["program"], setting(cells, "own"), *moved(results, cells, "own"), *moved(results, cells, "one"),
+                         with_spread(cells, with_ends("regret"), 100, ".1")])
             all_alike = setting(cells, "one")
     return table(["program", "its best: age, quota", "out", "back", f"one for all ({all_alike}): out", "back", "regret, in points"], rows)
 
@@ -104,9 +103,11 @@ def quota(text: str) -> str:
     return "none" if text == NO_QUOTA else f"{text} pages"
 
 
-def regret_of(cells: dict[str, str]) -> str:
-    mean, least, greatest = (100 * float(cells[name]) for name in ("regret", "regret least", "regret greatest"))
-    return f"{mean:.1f} ({least:.1f} to {greatest:.1f})"
+def moved(results: Results, cells: Mapping[str, str], whose: str) -> list[str]:
+    """What a setting puts out of a program, and what comes back."""
+    size = int(cells[f"{whose} quota"]) << PAGE_BITS
+    row = one(results.rows("reclaim"), program=cells["program"], age=cells[f"{whose} age"], quota=size)
+    return [spread(row.measures["out"]), spread(row.measures["refaults"], 2)]
 
 
 def goals(results: Results) -> list[str]:
@@ -120,15 +121,8 @@ def goals(results: Results) -> list[str]:
     for (kind, value), some in found.items():
         if value not in SHOWN[kind]:
             continue
-        regret, gain = (sums.get((f"kind={kind} value={value}", name)) for name in ("regret", "gain"))
+        sum_rows = [sums.get((f"kind={kind} value={value}", name), {}) for name in ("regret", "gain")]
         out, back = (sum(float(cells[name]) for cells in some) / len(some) for name in ("out", "refaults"))
-        rows.append([words[kind].format(quota(value) if kind == "quota" else value), share(out), share(back, 2), points(regret), points(gain)])
+        rows.append([words[kind].format(quota(value) if kind == "quota" else value), share(out), share(back, 2),
+                     *(with_spread(cells, ("mean", "least", "greatest"), 100, ".1") for cells in sum_rows)])
     return table(["setting", "out", "back", "regret, in points", "gain, in points"], rows)
-
-
-def points(cells: dict[str, str] | None) -> str:
-    """A mean over the programs, with the least and the greatest."""
-    if cells is None:
-        return "-"
-    mean, least, greatest = (100 * float(cells[name]) for name in ("mean", "least", "greatest"))
-    return f"{mean:.1f} ({least:.1f} to {greatest:.1f})"

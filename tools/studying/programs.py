@@ -8,8 +8,8 @@ from typing import Iterable, Iterator, NamedTuple
 from common import UsageError
 from measuring.truth import HOT
 from searching.plan import Plan, interval_at
-from searching.traces import trace_workloads
-from searching.workloads import Key
+from searching.points import Points
+from searching.searches import Known, workloads_of
 from tracing.kept import is_kept, kept_at
 
 SUFFIX = ".cut"
@@ -71,12 +71,12 @@ def name_of(path: Path) -> str:
     return path.name.partition(".")[0]
 
 
-def program_of(path: Path, plan: Plan) -> tuple[Program, Facts]:
-    """A program, as plans with these ways of reading watch it."""
+def program_of(path: Path, plan: Plan, known: Known) -> tuple[Program, Facts]:
+    """A program, as plans with these ways of reading watch it. Its workload is then known to them."""
     kept = kept_at(path)
     interval = interval_at(path, FACTS_PASSES)
-    key = Key(path.name, interval, 1)
-    ((_, workload),) = trace_workloads(plan._replace(folder=path.parent, target=None), path.name, [key])
+    plan = plan._replace(settings={**plan.settings, "interval": (interval,), "unit": (1,)}, intervals={}, target=None)
+    (workload,) = workloads_of(plan, Points(plan, None, 1), path.parent, known).values()
     ends = range(FACTS_AGGR, len(workload.passes) + 1, FACTS_AGGR)
     truths = [workload.truths.between(end - FACTS_AGGR, end) for end in ends]
     pages, hot = max(1, workload.pages * len(truths)), sum(truth.hot for truth in truths)

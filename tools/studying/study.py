@@ -9,12 +9,12 @@ from blocks import with_blocks
 from common import UsageError
 from searching.plan import PASSES, Plan, Value, plan_of
 from searching.points import Points
-from searching.searches import Machine, searched
+from searching.searches import Known, Machine, searched
 
 from .findings import FINDINGS, Results
 from .page import tables_of
 from .pictures import PICTURES
-from .programs import Program, fact_rows, program_of, programs_of
+from .programs import Facts, Program, fact_rows, program_of, programs_of
 from .rows import Found, found_rows, lines_of, shown_settings, write_cells
 
 FACTS = "programs"
@@ -56,29 +56,34 @@ def plan_files(study: Study) -> list[Path]:
 
 
 def runs_of(study: Study, paths: Iterable[Path], machine: Machine) -> Iterator[Path]:
-    """Makes all runs, plan by plan. Gives the file of the results of each. Raises UsageError."""
+    """Makes all runs, program by program, so that workloads are made once. Gives the files of results. Raises UsageError."""
     traces, files = programs_of(paths), plan_files(study)
     for file in files:
         restricted(plan_of(str(file), traces[0]), study.only)
-    programs = [program_of(path, plan_of(str(files[0]), path)) for path in traces]
-    write_cells(study.results / f"{FACTS}.csv", fact_rows(programs))
-    for place, file in enumerate(files):
-        rows: list[Found] = []
-        for number, (program, _) in enumerate(programs):
-            print(f"note: {file.stem} of {program.name}, search {place * len(programs) + number + 1} of {len(files) * len(programs)}",
-                  file=sys.stderr)
-            rows += rows_made(study, file, program, machine)
-        path = study.results / f"{file.stem}.csv"
-        write_cells(path, lines_of(rows))
+    programs: list[tuple[Program, Facts]] = []
+    rows: dict[str, list[Found]] = {file.stem: [] for file in files}
+    for number, trace in enumerate(traces):
+        known: Known = {}
+        programs.append(program_of(trace, plan_of(str(files[0]), trace), known))
+        for place, file in enumerate(files):
+            program, search = programs[-1][0], number * len(files) + place + 1
+            print(f"note: {program.name}, {file.stem}: search {search} of {len(files) * len(traces)}", file=sys.stderr)
+            rows[file.stem] += rows_made(study, file, program, machine, known)
+    for name, lines in {FACTS: fact_rows(programs), **{stem: lines_of(found) for stem, found in rows.items()}}.items():
+        path = study.results / f"{name}.csv"
+        write_cells(path, lines)
         yield path
 
 
-def rows_made(study: Study, file: Path, program: Program, machine: Machine) -> list[Found]:
+def rows_made(study: Study, file: Path, program: Program, machine: Machine, known: Known) -> list[Found]:
     """Makes the runs of a plan on a program that are not there."""
     whole = plan_of(str(file), program.path)
     plan, path = restricted(whole, study.only), study.out / "runs" / file.stem / f"{program.name}.csv"
     path.parent.mkdir(parents=True, exist_ok=True)
-    searched(plan, Points(plan, None, 1), path, machine)
+    wanted = max((int(passes) for _, passes in whole.intervals), default=0)
+    if program.intervals < wanted:
+        print(f"note: {program.name} has {program.intervals} intervals for {wanted} passes: keep it with a smaller --grain", file=sys.stderr)
+    searched(plan, Points(plan, None, 1), path, machine, known)
     return list(found_rows(plan, shown_settings(whole), program, path))
 
 
