@@ -25,8 +25,8 @@ WORDS = ("--headless=new", "--disable-gpu", "--hide-scrollbars", f"--window-size
 FRAMES = """const done = arguments[0], look = () => document.body.dataset.isDrawn === "no" ? requestAnimationFrame(look) : setTimeout(done, 0);
 requestAnimationFrame(() => requestAnimationFrame(look))"""
 """Ends when what was changed until now is drawn."""
-ASKING = ("script", "log")
-"""The commands that change nothing that is drawn."""
+ASKING = ("script", "log", "cost")
+"""The commands after which nobody waits until all is drawn."""
 
 webdriver: Any = import_module("selenium.webdriver")
 chains: Any = import_module("selenium.webdriver.common.action_chains")
@@ -69,6 +69,18 @@ class Driver:
     def wait(self, text: str) -> Any:
         """The answer of a script that calls its first argument with it."""
         return self.browser.execute_async_script(text)
+
+    def cost(self, text: str) -> float:
+        """The milliseconds of processor time that the thread of the page takes for a script like those of `wait`, and for what it causes."""
+        self.browser.execute_cdp_cmd("Performance.enable", {"timeDomain": "threadTicks"})
+        before = self.spent()
+        self.wait(text)
+        return 1000 * (self.spent() - before)
+
+    def spent(self) -> float:
+        """The seconds of processor time that the thread of the page took for tasks since it was asked first."""
+        found = self.browser.execute_cdp_cmd("Performance.getMetrics", {})["metrics"]
+        return float({metric["name"]: metric["value"] for metric in found}["TaskDuration"])
 
     def place(self, selector: str, x: float, y: float) -> tuple[Any, int, int]:
         """An element, which is brought into the window, and a place in it as the actions take it: from its middle."""

@@ -7,7 +7,8 @@ goes through the page TURNS times and makes two searches as often. Numbers are s
 that it started: other work on the machine changes them less than times by the clock. The least of the turns is taken. The first
 command of the page reads the trace and keeps it, and those after it take what was kept. Left out are the commands that the tests
 of the page leave out. A search has one process, and reads a kept trace; its runs alone are `damon` on the same scripts, which
-stand in files, one after another.
+stand in files, one after another. With `checks` as its one measure a search reads the last line of each report, so this is what
+the pool takes; the rest of the whole search is the reading of rows.
 """
 from __future__ import annotations
 
@@ -17,10 +18,10 @@ import subprocess
 import sys
 import tempfile
 from pathlib import Path
-from typing import NamedTuple
+from typing import Iterator, NamedTuple
 
 from pages import BLOCK, UNTRIED, is_a_command
-from tool_runs import PROGRAM, TOOLS, TOP, need_program
+from tool_runs import KEPT, PROGRAM, TOOLS, TOP, need_program
 
 from searching.plan import plan_of
 from searching.points import Points
@@ -28,9 +29,11 @@ from searching.runs import script_of
 from searching.searches import workloads_of
 
 PAGE = TOP / "docs/TUTORIAL.md"
+PLAN = TOP / "examples/search.toml"
 SMALL_RUNS = 2000
 SMALL = 'scripts = ["{path}"]\n[settings]\nseed = {{ from = 1, to = {runs} }}\n'
 """A plan of runs that take about a millisecond each."""
+CHECKS = '\n[measure]\ncolumns = ["checks"]\n'
 
 
 class Search(NamedTuple):
@@ -101,6 +104,14 @@ def searched(plan: Path, turns: int) -> Search:
         return Search(len(scripts), min(whole), min(own))
 
 
+def plans(text: str) -> Iterator[tuple[str, str]]:
+    """The plans of the searches, by what they are called."""
+    whole = text.replace(f'"{KEPT.name}"', f'"{KEPT}"')
+    yield "`examples/search.toml`", whole
+    yield "the same with `checks` alone measured", whole + CHECKS
+    yield "seeds of `examples/cold.damon`", SMALL.format(path=TOP / "examples/cold.damon", runs=SMALL_RUNS)
+
+
 def main() -> None:
     need_program()
     turns, commands = int(sys.argv[1]), commands_of(PAGE.read_text())
@@ -109,9 +120,9 @@ def main() -> None:
         print(f"| `{line}` | {min(times):.2f} |")
     print("\n| search | runs | seconds | runs alone | ratio |\n|---|---|---|---|---|", flush=True)
     with tempfile.TemporaryDirectory() as folder:
-        small = Path(folder) / "small.toml"
-        small.write_text(SMALL.format(path=TOP / "examples/cold.damon", runs=SMALL_RUNS))
-        for name, plan in (("`examples/search.toml`", TOP / "examples/search.toml"), ("seeds of `examples/cold.damon`", small)):
+        for name, text in plans(PLAN.read_text()):
+            plan = Path(folder) / "plan.toml"
+            plan.write_text(text)
             found = searched(plan, turns)
             print(f"| {name} | {found.runs} | {found.whole:.1f} | {found.alone:.1f} | {found.whole / found.alone:.2f} |", flush=True)
 

@@ -21,6 +21,8 @@ from measure import Inputs, Job, Program, jobs_of, order_of, parse_words, progra
 from speed_workloads import WORKLOADS, Workload
 from tool_runs import need_program
 
+from searching.plan import plan_of
+
 SMALL = Workload("small", "a small one", "lines", ("replay",), (3, 1), lambda size: b"line\n" * size)
 OTHER = Workload("other", "another one", "", ("json",), (2,), lambda size: b"x" * size)
 PAGE = "before\n<!-- figures -->\nold\n<!-- end -->\nbetween\n<!-- growth -->\nold\n<!-- end -->\nafter\n"
@@ -215,6 +217,18 @@ class Tools(unittest.TestCase):
     def test_a_command_that_fails_is_no_time(self) -> None:
         with self.assertRaisesRegex(RuntimeError, "^tools/flat.py no-such-file: status 2$"):
             measure_tools.tutorial(["tools/flat.py no-such-file"])
+
+    def test_the_plans_of_searches(self) -> None:
+        with tempfile.TemporaryDirectory() as folder:
+            path, found = Path(folder) / "plan.toml", []
+            for _, text in measure_tools.plans(measure_tools.PLAN.read_text()):
+                path.write_text(text)
+                found.append(plan_of(str(path)))
+        whole, checks, small = found
+        self.assertGreater(len(whole.measures), 5)
+        self.assertEqual(checks, whole._replace(measures=("checks",)))
+        self.assertEqual((len(small.seeds), small.are_traces), (measure_tools.SMALL_RUNS, False))
+        self.assertTrue(all(Path(name).is_file() for plan in found for name in plan.workloads))
 
     def test_a_search_beside_its_runs(self) -> None:
         need_program()

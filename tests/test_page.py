@@ -5,6 +5,7 @@ from __future__ import annotations
 import json
 import unittest
 
+from measure_page import FRAME, HOLD
 from page_parts import PAGE, Found, Row
 from page_shown import GUTTER, RIGHT, Pages, Shown, heat, middle, scheme_words
 
@@ -123,6 +124,18 @@ class Zoom(Shown):
         states = ["old" if one == old else "drawn" if one == new else "moved" for one, old, new in zip(soon, before, wanted)]
         self.assertNotIn("old", [state for state, old, new in zip(states, before, wanted) if old != new])
         self.assertGreater(states.count("moved"), 1)
+
+    def test_the_cost_of_a_frame_is_that_of_one_turn_of_the_wheel(self) -> None:
+        before = self.browser.do("script", f"return {PICTURES}")
+        # A page that is held would let the next test wait.
+        self.addCleanup(self.open, Pages.one())
+        self.browser.do("script", HOLD)
+        for turn in (-80, -80, 80, 80):
+            times, pictures = self.time(), self.browser.do("script", f"return {PICTURES}")
+            self.assertGreater(self.browser.do("cost", FRAME.format(turn=turn)), 0)
+            self.assertEqual(self.time()[1] - self.time()[0] < times[1] - times[0], turn < 0)
+            self.assertNotEqual(self.browser.do("script", f"return {PICTURES}"), pictures)
+        self.assertNotEqual(pictures, before)
 
     def test_one_direction_alone(self) -> None:
         for place, key, is_time, is_pages in ((500, "SHIFT", True, False), (500, "ALT", False, True), (40, "", False, True)):

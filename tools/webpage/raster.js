@@ -63,6 +63,11 @@ class Sums {
   addBetween(sums, start, end, value) {
     const isLarge = this.frame.isLarge(start, end), top = this.frame.line(end, isLarge), bottom = this.frame.line(start, isLarge);
     const first = top | 0, last = bottom | 0;
+    if (first === last) {
+      sums[first] += value * (bottom - top);
+      sums[first + 1] -= value * (bottom - top);
+      return;
+    }
     sums[first] += value * (first + 1 - top);
     sums[first + 1] += value * (top - first);
     sums[last] -= value * (last + 1 - bottom);
@@ -71,22 +76,23 @@ class Sums {
 
   /** Adds the rows of a snapshot, with a weight. */
   add(snapshot, weight) {
-    const { frame, report } = this, { start, end, count } = report.rows, passes = report.snapshots.passes[snapshot];
-    const [first, after] = report.rowsOf(snapshot, frame.target);
+    const { frame, report, hits, watched } = this, { start, end, count } = report.rows, [low, high] = frame.pages;
+    const [first, after] = report.rowsOf(snapshot, frame.target), passes = report.snapshots.passes[snapshot];
     // Rows that follow each other without a gap are watched as one.
     let from = -1, to = -1, row = first;
-    if (frame.pages[0] > 0) row = Math.max(first, firstAbove(start, frame.pages[0], first, after) - 1);
+    if (low > 0) row = Math.max(first, firstAbove(start, low, first, after) - 1);
     for (; row < after; row++) {
-      if (start[row] >= frame.pages[1]) break;
-      if (end[row] <= frame.pages[0]) continue;
-      if (start[row] !== to) {
-        if (from >= 0) this.addBetween(this.watched, from, to, weight);
-        from = start[row];
+      const since = start[row], until = end[row], times = count[row];
+      if (since >= high) break;
+      if (until <= low) continue;
+      if (since !== to) {
+        if (from >= 0) this.addBetween(watched, from, to, weight);
+        from = since;
       }
-      to = end[row];
-      if (count[row]) this.addBetween(this.hits, start[row], end[row], weight * count[row] / passes);
+      to = until;
+      if (times) this.addBetween(hits, since, until, weight * times / passes);
     }
-    if (from >= 0) this.addBetween(this.watched, from, to, weight);
+    if (from >= 0) this.addBetween(watched, from, to, weight);
     this.isEmpty = false;
   }
 
