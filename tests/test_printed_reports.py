@@ -6,10 +6,12 @@
 from __future__ import annotations
 
 import re
+import shutil
+import subprocess
 import unittest
 
 from pages import BLOCK
-from tool_runs import TOP, need_program, report_of
+from tool_runs import PROGRAM, TOP, need_program, report_of
 
 FIRST_LINE = re.compile(r"(\d )?(show|aggregate|commit|fault) (tick|line)=\d")
 """How a block begins that is a report, or the output of `damon admin`."""
@@ -56,6 +58,25 @@ class Examples(unittest.TestCase):
             for block in printed:
                 name = EXAMPLE.findall(text[: text.index(f"```\n{block}")])[-1]
                 self.assertIn(f"\n{block}", f"\n{report_of(example(name))}", f"{page}: {name}")
+
+
+@unittest.skipUnless(shutil.which("jq"), "jq is not installed: `apt-get install jq` installs it on Debian")
+class JsonLines(unittest.TestCase):
+    """The commands of a page that take JSON apart find what the text of the same run says."""
+
+    def test_commands_with_jq(self) -> None:
+        commands = [block for block in BLOCK.findall(text_of("examples/README.md")) if "jq -r" in block]
+        found = [subprocess.check_output(line.replace("./damon", str(PROGRAM)), shell=True, cwd=TOP, text=True) for line in commands]
+        tick, accessed = "", []
+        for words in map(str.split, report_of(example("aggregate.damon")).splitlines()):
+            if words[0] in ("aggregate", "show"):
+                # The rows of a show are those of no aggregation.
+                tick = words[1].removeprefix("tick=") if words[0] == "aggregate" else ""
+            elif tick and words[0] == "row" and words[3] != "count=0":
+                accessed.append(f"{tick} {words[2]} {words[3].removeprefix('count=')}\n")
+        applied = re.findall(r"^apply 0 pageout 0 (\w+)-(\w+) ", report_of(example("cold.damon")), re.MULTILINE)
+        self.assertEqual(found, ["".join(accessed), "".join(f"{start} {end}\n" for start, end in applied)])
+        self.assertGreater(min(len(accessed), len(applied)), 1)
 
 
 class Formats(unittest.TestCase):
