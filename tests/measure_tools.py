@@ -13,6 +13,7 @@ the pool takes; the rest of the whole search is the reading of rows.
 from __future__ import annotations
 
 import os
+import re
 import resource
 import subprocess
 import sys
@@ -34,6 +35,8 @@ SMALL_RUNS = 2000
 SMALL = 'scripts = ["{path}"]\n[settings]\nseed = {{ from = 1, to = {runs} }}\n'
 """A plan of runs that take about a millisecond each."""
 CHECKS = '\n[measure]\ncolumns = ["checks"]\n'
+HIDDEN = re.compile(r"^<!--$.*?^-->$", re.MULTILINE | re.DOTALL)
+"""What a reader does not see: blocks whose commands print the numbers of a paragraph."""
 
 
 class Search(NamedTuple):
@@ -62,8 +65,9 @@ def seconds(words: str, folder: Path) -> float:
 
 
 def commands_of(page: str) -> list[str]:
-    """The commands of a page that run anywhere."""
-    blocks = [block for block in BLOCK.findall(page) if not any(word in block for word in UNTRIED)]
+    """The commands that a page shows and that run anywhere."""
+    shown = HIDDEN.sub("", page)
+    blocks = [block for block in BLOCK.findall(shown) if not any(word in block for word in UNTRIED)]
     return [line for block in blocks for line in block.splitlines() if is_a_command(line)]
 
 
