@@ -3,6 +3,7 @@
 
     tests/measure.py TURNS [PROGRAM ...] [--only NAME] [--sizes] [--seed N] [--csv FILE]
     tests/measure.py --instructions [PROGRAM ...] [--only NAME] [--csv FILE]
+    tests/measure.py TURNS [PROGRAM] --bounds [--only NAME] [--csv FILE]
     tests/measure.py --write | --check [--csv FILE]
 
 Each PROGRAM is run TURNS times on each workload (`speed_workloads.py`). In each turn the pairs of a program and a workload come
@@ -19,13 +20,18 @@ begin with NAME, and `--sizes` all sizes of a workload in place of the greatest.
 With `--instructions` each program is run once on each workload of `damon` by valgrind's callgrind. Other work on the machine
 does not change these numbers. Threads take other turns each time, so those of `damond` are not counted.
 
-With `--write` the tables of docs/PERFORMANCE.md are made from FILE, which is docs/performance.csv where no other is named; with
-`--check` the exit status is 1 where that would change the page. So all figures of the page are made by these commands, on a
-machine with nothing else to do:
+With `--bounds` the first program is run once on each workload to see what that asks of the machine, and the best of TURNS times is
+taken of loops that do only that (`speed_bounds.py`). FILE is docs/bounds.csv where no other is named, and its other rows stay. The
+loops are built with the baseline, or those that BOUNDS in the environment names.
+
+With `--write` the tables of docs/PERFORMANCE.md are made from FILE, which is docs/performance.csv where no other is named, and from
+bounds.csv beside it, where it is there; with `--check` the exit status is 1 where that would change the page. So all figures of
+the page are made by these commands, on a machine with nothing else to do:
 
     rm -f docs/performance.csv
     tests/measure.py 50 --sizes --csv docs/performance.csv
     tests/measure.py --instructions --csv docs/performance.csv
+    tests/measure.py 20 --bounds
     tests/measure.py --write
     tests/growth.py docs/PERFORMANCE.md > docs/pictures/growth.svg
 """
@@ -41,11 +47,13 @@ from pathlib import Path
 from typing import Dict, List, NamedTuple, Optional, Sequence
 
 from figures import Figures, Measured, Subject, joined, lines_of, load, save, written
+from speed_bounds import LOOPS, Bounds, asked, lines_of_bounds, load_bounds, save_bounds, timed, with_bounds
 from speed_workloads import WORKLOADS, Workload
 
 TOP = Path(__file__).resolve().parent.parent
 PAGE = TOP / "docs/PERFORMANCE.md"
 KEPT = TOP / "docs/performance.csv"
+BOUNDS = "bounds.csv"
 PROGRAMS = (
     f"proved={TOP}/crates/damon/out/damon,{TOP}/crates/damond/out/damond",
     f"plain={TOP}/baseline/target/release/damon,{TOP}/baseline/target/release/damond",
@@ -90,13 +98,13 @@ class Inputs:
 # ---- one run
 
 
-def milliseconds(job: Job, source: Path) -> float:
+def milliseconds(command: Sequence[str], source: Path) -> float:
     with source.open("rb") as text:
         start = time.perf_counter()
-        run = subprocess.run(job.command(), stdin=text, stdout=subprocess.DEVNULL)
+        run = subprocess.run(command, stdin=text, stdout=subprocess.DEVNULL)
         end = time.perf_counter()
     if run.returncode != 0:
-        sys.exit(f"{' '.join(job.command())} ended with status {run.returncode}")
+        sys.exit(f"{' '.join(command)} ended with status {run.returncode}")
     return 1000 * (end - start)
 
 
@@ -123,7 +131,7 @@ def measure(turns: int, jobs: Sequence[Job], seed: int, inputs: Inputs) -> Measu
     found = {job.subject(): Figures(peak_kib=peak_kib(job, inputs.path(job))) for job in jobs}
     for turn in range(turns):
         for job in order_of(jobs, seed, turn):
-            found[job.subject()].milliseconds.append(milliseconds(job, inputs.path(job)))
+            found[job.subject()].milliseconds.append(milliseconds(job.command(), inputs.path(job)))
     return found
 
 
@@ -135,6 +143,15 @@ def order_of(jobs: Sequence[Job], seed: int, turn: int) -> List[Job]:
 def count(jobs: Sequence[Job], inputs: Inputs) -> Measured:
     counted = [job for job in jobs if job.workload.program == "damon"]
     return {job.subject(): Figures(instructions=instructions(job, inputs.path(job))) for job in counted}
+
+
+def bound(turns: int, jobs: Sequence[Job], inputs: Inputs) -> Bounds:
+    """What the workloads ask of the machine, in the runs of the first program, with the best times of loops that do only that."""
+    def best(command: Sequence[str], source: Path) -> float:
+        return min(milliseconds(command, source) for _ in range(turns))
+
+    first = [job for job in jobs if job.program == jobs[0].program]
+    return {job.workload.name: timed(asked(job.workload, job.command(), inputs.path(job)), inputs.path(job), best) for job in first}
 
 
 # ---- the words of the command line
@@ -162,6 +179,7 @@ def parse_words(words: Optional[Sequence[str]] = None) -> argparse.Namespace:
     parser.add_argument("--csv", type=Path, metavar="FILE", help="where figures are kept")
     kinds = parser.add_mutually_exclusive_group()
     kinds.add_argument("--instructions", action="store_true", help="count instructions")
+    kinds.add_argument("--bounds", action="store_true", help="measure what the machine bounds")
     kinds.add_argument("--write", action="store_true", help="make the tables of the page")
     kinds.add_argument("--check", action="store_true", help="tell whether the tables of the page are those of the file")
     given = parser.parse_args(words)
@@ -178,14 +196,16 @@ def main(words: Optional[Sequence[str]] = None) -> int:
         programs = [program_of(word) for word in given.programs or PROGRAMS]
     except argparse.ArgumentTypeError as error:
         sys.exit(f"tests/measure.py: {error}")
-    jobs = jobs_of(programs, given.only, given.sizes)
-    tool = COUNTER if given.instructions else TIMER
+    jobs = jobs_of(programs, given.only, given.sizes and not given.bounds)
+    tool = COUNTER if given.instructions else LOOPS if given.bounds else TIMER
     if shutil.which(tool) is None:
         sys.exit(f"tests/measure.py: there is no {tool}")
     # Journals are made by one of the programs that are measured.
     os.environ.setdefault("DAMOND", str(programs[0].files.get("damond", "")))
     with tempfile.TemporaryDirectory() as folder:
         inputs = Inputs(folder)
+        if given.bounds:
+            return keep_bounds(given.csv or KEPT.with_name(BOUNDS), bound(given.turns, jobs, inputs))
         found = count(jobs, inputs) if given.instructions else measure(given.turns, jobs, given.seed, inputs)
     if given.csv:
         found = joined(load(given.csv), found)
@@ -208,12 +228,22 @@ def jobs_of(programs: Sequence[Program], only: str, has_sizes: bool) -> List[Job
     return jobs
 
 
+def keep_bounds(path: Path, found: Bounds) -> int:
+    """Puts bounds in the place of those that a file has of the same workloads."""
+    save_bounds(path, {**load_bounds(path), **found})
+    print(*lines_of_bounds(found), sep="\n")
+    return 0
+
+
 def keep_page(path: Path, only_checks: bool) -> int:
     """Makes the tables of the page from a file of figures, or tells whether they are those of the file."""
     if not path.exists():
         sys.exit(f"there is no {path}: tests/measure.py TURNS --csv {path} makes it")
     old = PAGE.read_text()
-    new = written(old, load(path), WORKLOADS)
+    figures, bounds = load(path), path.with_name(BOUNDS)
+    new = written(old, figures, WORKLOADS)
+    if bounds.exists():
+        new = with_bounds(new, load_bounds(bounds), figures, WORKLOADS)
     if not only_checks:
         PAGE.write_text(new)
     elif new != old:

@@ -10,14 +10,16 @@ import tempfile
 import unittest
 from argparse import ArgumentTypeError
 from pathlib import Path
-from typing import List
+from typing import List, Sequence, Tuple
 from unittest import mock
 
 
 import measure
 import measure_tools
+import speed_bounds
 from figures import Figures, Measured, Subject, joined, lines_of, load, save, written
 from measure import Inputs, Job, Program, jobs_of, order_of, parse_words, program_of
+from speed_bounds import Bound, asked, bounds_table, load_bounds, save_bounds, timed
 from speed_workloads import WORKLOADS, Workload
 from tool_runs import need_program
 
@@ -66,12 +68,12 @@ class Turns(unittest.TestCase):
     def test_a_program_that_fails_ends_it(self) -> None:
         with tempfile.TemporaryDirectory() as folder, self.assertRaisesRegex(SystemExit, "ended with status 3"):
             job = jobs_in(folder, "exit 3")[0]
-            measure.milliseconds(job, Inputs(folder).path(job))
+            measure.milliseconds(job.command(), Inputs(folder).path(job))
 
     def test_a_program_gets_the_input_and_the_words(self) -> None:
         with tempfile.TemporaryDirectory() as folder:
             job = Job(program_in(folder, "one", f'echo "$@" > {folder}/got; cat >> {folder}/got'), SMALL, 3)
-            measure.milliseconds(job, Inputs(folder).path(job))
+            measure.milliseconds(job.command(), Inputs(folder).path(job))
             self.assertEqual(Path(folder, "got").read_text(), "replay\nline\nline\nline\n")
 
     @unittest.skipUnless(shutil.which(measure.COUNTER), f"there is no {measure.COUNTER}")
@@ -196,15 +198,85 @@ class Page(unittest.TestCase):
     def test_the_page_has_only_tables_between_its_marks(self) -> None:
         """Sentences that are written by hand stand beside them, and stay."""
         page = measure.PAGE.read_text()
-        rows = "".join(re.findall(r"<!-- (?:figures|growth) -->\n(.*?)<!-- end -->", page, re.DOTALL)).splitlines()
+        rows = "".join(re.findall(r"<!-- (?:figures|growth|bounds) -->\n(.*?)<!-- end -->", page, re.DOTALL)).splitlines()
         self.assertEqual([row for row in rows if row and not row.startswith("| ") and not row.startswith("|-")], [])
         new, old = ([line for line in text.splitlines() if line and not line.startswith("|")] for text in (written(page, {}, WORKLOADS), page))
         self.assertEqual(new, old)
+
+    def test_a_table_of_bounds_is_made_where_these_are_kept(self) -> None:
+        with tempfile.TemporaryDirectory() as folder:
+            page, kept = Path(folder) / "PAGE.md", Path(folder) / "figures.csv"
+            page.write_text(PAGE + "<!-- bounds -->\nold\n<!-- end -->\n")
+            save(kept, made_up())
+            with mock.patch.object(measure, "PAGE", page), mock.patch.object(measure, "TOP", Path(folder)), \
+                    mock.patch.object(measure, "WORKLOADS", [SMALL]), mock.patch("builtins.print"):
+                self.assertEqual(measure.main(["--write", "--csv", str(kept)]), 0)
+                self.assertIn("<!-- bounds -->\nold\n", page.read_text())
+                measure.keep_bounds(kept.with_name("bounds.csv"), {"small": BOUND})
+                self.assertEqual(measure.main(["--check", "--csv", str(kept)]), 1)
+                self.assertEqual(measure.main(["--write", "--csv", str(kept)]), 0)
+                self.assertEqual(measure.main(["--check", "--csv", str(kept)]), 0)
+                self.assertNotIn("old", page.read_text())
 
     @unittest.skipUnless(measure.KEPT.exists(), "no figures are kept: tests/measure.py TURNS --csv docs/performance.csv makes them")
     def test_the_page_is_that_of_its_figures(self) -> None:
         self.assertEqual(measure.main(["--check"]), 0)
 
+
+BOUND = Bound(15, 40_000, 1000, 300, 30, 16, 0.5, 0.25, 1.0, 0.25)
+
+
+class Bounds(unittest.TestCase):
+    def asked_of(self, words: Tuple[str, ...], text: bytes, output: str) -> Bound:
+        """The bound of a program that reads its input and writes this."""
+        with tempfile.TemporaryDirectory() as folder:
+            source = Path(folder) / "input"
+            source.write_bytes(text)
+            return asked(SMALL._replace(words=words), ["sh", "-c", f"cat >/dev/null; printf '{output}'"], source)
+
+    def test_what_a_run_asks_for(self) -> None:
+        text = b"attrs 3 8 2\ntarget 0x0 100\ntarget 0x0 29\nbegin\nend\n"
+        ends, found = "end ticks=3 rows=4 checks=10 hits=1\\n", Bound(len(text), 72, 10 + 2 * 8, 10, 4, 3)
+        self.assertEqual(self.asked_of(("replay",), text, f"aggregate tick=2 threshold=0 rows=4\\n{ends}"), found)
+        lines = '{"kind":"aggregate","tick":2}\\n{"checks":10,"kind":"end","ticks":3}\\n'
+        self.assertEqual(self.asked_of(("json",), text, lines), found._replace(written=67))
+
+    def test_a_journal_says_which_words_were_drawn(self) -> None:
+        text = b"attrs 3 8 2\ntarget 0x0 64\nbegin\naggregate 2 at 8\nend ticks=3 rows=4 checks=10 hits=1\n"
+        self.assertEqual(self.asked_of(("verify",), text, "lawful\\n"), Bound(len(text), 7, 26, 0, 0, 1))
+
+    def test_a_generated_run_has_the_setup_of_the_page(self) -> None:
+        found = self.asked_of(("gen", "1"), b"", "gen 1 ticks=2000 rows=9 checks=50001 hits=5 applied=6\\n")
+        self.assertEqual(found, Bound(0, 54, 50_001 + 100 * 200, 50_001, 26, 16))
+        self.assertIn(speed_bounds.GENERATED.decode(), (measure.TOP / "docs/FORMATS.md").read_text())
+
+    def test_each_loop_has_its_own_start_taken_off(self) -> None:
+        asked_for: List[Tuple[str, ...]] = []
+
+        def timer(command: Sequence[str], source: Path) -> float:
+            asked_for.append((*command[1:], source.name))
+            return 7.0 if source.name == "input" or int([*command[1:], "0"][1]) > 0 else 5.0
+
+        found = timed(BOUND._replace(words=0), Path("input"), timer)
+        self.assertEqual(found, Bound(15, 40_000, 0, 300, 30, 16, 2.0, 2.0, 0.0, 2.0))
+        self.assertEqual(asked_for, [("read", "input"), ("read", "null"), ("write", "40000", "null"), ("write", "0", "null"),
+                                     ("access", "300", "30", "16", "null"), ("access", "0", "30", "16", "null")])
+
+    def test_a_file_gives_back_what_was_kept(self) -> None:
+        with tempfile.TemporaryDirectory() as folder:
+            path = Path(folder) / "bounds.csv"
+            self.assertEqual(load_bounds(path), {})
+            save_bounds(path, {"small": BOUND, "other": BOUND._replace(read=0)})
+            self.assertEqual(load_bounds(path), {"small": BOUND, "other": BOUND._replace(read=0)})
+
+    def test_a_row_has_the_time_less_the_start(self) -> None:
+        bounds = {"small": BOUND, "other": Bound(9, 0, 0, 0, 0, 1, 0.04)}
+        self.assertEqual(len(bounds_table(bounds, made_up(), [SMALL, OTHER])), 2)
+        figures = {**made_up(), Subject("start", 1, "proved"): Figures([0.75, 0.5])}
+        self.assertEqual(bounds_table(bounds, figures, [SMALL, OTHER])[2:], [
+            "| a small one | 15 | 40,000 | 1,000 | 600 | 2.0 ms | 0.5 ms | 0.2 |",
+            "| another one | 9 |  |  |  | 0.0 ms | 7.5 ms |  |",
+        ])
 
 
 class Tools(unittest.TestCase):
