@@ -8,6 +8,7 @@ mod Keeping
 mod Shown
 mod Tallying
 mod Standing
+mod Following
 mod Running
 mod Counting
 mod RowFacts

@@ -11,7 +11,8 @@ use Rattle.damon_core.specs.Event.{IsClearing, IsLoading, clear, clear_index, lo
 use Rattle.damon_core.specs.Several.{clears, loads}
 use Rattle.damon_core.specs.After.{loaded_core, phase_cleared}
 use Rattle.damon_core.specs.Pass.{IsPickWithin}
-use Rattle.damon_core.specs.Makes.{Makes, Makes-append}
+use Rattle.damon_core.specs.Makes.{Makes}
+use Rattle.damon_core.proofs.Following.{Makes-append}
 use Rattle.damon_core.specs.Stands.{MonitorView, Stands}
 use Rattle.damon_core.specs.Kept.{HasPicks, SinceFew}
 use Rattle.damon_core.proofs.Shown.{after_all_loads, after_clears, after_load, after_loads}

@@ -16,7 +16,7 @@ use Rattle.damon_core.specs.Event.{Event, Fits, IsClearing, IsLoading, IsObservi
 use Rattle.damon_core.specs.After.{after, by_clear, by_load, phase_cleared}
 use Rattle.damon_core.specs.Commit.{check_of, committed, committed_core, if_accepted, phase_after_commit}
 use Rattle.damon_core.specs.InPhase.{IsInPhase}
-use Rattle.damon_core.specs.Makes.{Reached-run}
+use Rattle.damon_core.proofs.Following.{Reached-run}
 use Rattle.damon_core.specs.Pass.{IsBetween, IsPickWithin}
 use Rattle.damon_core.specs.Reached.{AllFit, Reached, run}
 use Rattle.damon_core.specs.Several.{clears}

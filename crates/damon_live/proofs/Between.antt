@@ -17,7 +17,8 @@ use Rattle.page_words.specs.Clears.{last_clear_of}
 use Rattle.page_words.specs.Seats.{MonitorSeatView}
 use Rattle.damon_core.specs.Commit.{becomes_void, check_of, committed_core, if_accepted}
 use Rattle.damon_core.specs.Event.{aggregate}
-use Rattle.damon_core.specs.Makes.{Makes, Reached-run}
+use Rattle.damon_core.specs.Makes.{Makes}
+use Rattle.damon_core.proofs.Lemmas.{Reached-run}
 use Rattle.damon_core.specs.Reached.{Reached, run}
 use Rattle.damon_core.specs.State.{Core}
 use Rattle.damon_core.specs.Stands.{MonitorView, Stands}

@@ -9,7 +9,8 @@ use Rattle.live_commit.specs.declared.phase.Phase.TheVariants.{Idle, Armed, Due,
 use Rattle.page_words.specs.Seats.{MonitorSeatView}
 use Rattle.damon_core.specs.After.{passed_core, phase_after_pass}
 use Rattle.damon_core.specs.Event.{load, observe}
-use Rattle.damon_core.specs.Makes.{Makes, Makes-append, Reached-run}
+use Rattle.damon_core.specs.Makes.{Makes}
+use Rattle.damon_core.proofs.Lemmas.{Makes-append, Reached-run}
 use Rattle.damon_core.specs.Pass.{IsBetween}
 use Rattle.damon_core.specs.Reached.{Reached, run}
 use Rattle.damon_core.specs.State.{Core, row_count}

@@ -14,7 +14,8 @@ use Rattle.page_words.specs.Clears.{last_clear_of, last_clear_pass}
 use Rattle.page_words.specs.Seats.{MonitorSeatView}
 use Rattle.damon_core.specs.After.{cleared_core, phase_cleared, prepared_core}
 use Rattle.damon_core.specs.Event.{clear_index, prepare}
-use Rattle.damon_core.specs.Makes.{Makes, Makes-append, Reached-run}
+use Rattle.damon_core.specs.Makes.{Makes}
+use Rattle.damon_core.proofs.Lemmas.{Makes-append, Reached-run}
 use Rattle.damon_core.specs.Reached.{Reached, run}
 use Rattle.damon_core.specs.Several.{clears}
 use Rattle.damon_core.specs.State.{Core, State, row_count}

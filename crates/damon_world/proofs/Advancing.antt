@@ -13,7 +13,8 @@ use Rattle.damon_core.specs.Event.{Event, IsLoading, clear, load, load_index, lo
 use Rattle.damon_core.specs.Several.{clears, loads}
 use Rattle.damon_core.specs.After.{after, by_clear, by_load, cleared_core, loaded_core, phase_cleared}
 use Rattle.damon_core.specs.Reached.{AllFit, Reached, run}
-use Rattle.damon_core.specs.Makes.{Makes, run-append}
+use Rattle.damon_core.specs.Makes.{Makes}
+use Rattle.damon_core.proofs.Lemmas.{run-append}
 use Rattle.damon_core.specs.Pass.{IsInPass, cleared_so_far}
 use Rattle.damon_core.specs.Stands.{MonitorView, Stands}
 use Rattle.damon_world.specs.Moment.{Moment, drawn_by, event_in, events_of_steps, moved, next_event, stepped, stepped_times}
@@ -24,7 +25,7 @@ use Rattle.damon_world.specs.Kept.{IsAdvance}
 use Rattle.damon_world.specs.Pages.{ArePagesOf, AreCleared, PagesView, is_picked}
 use Rattle.damon_world.proofs.Notes.{same_pages}
 use Rattle.damon_world.proofs.Parts.{put_more}
-use Rattle.damon_world.specs.Steps.{events_more, stepped_more}
+use Rattle.damon_world.proofs.Following.{events_more, stepped_more}
 use Rattle.damon_world.proofs.Stepping.{event_in-load, not_last, word_of-by_load}
 
 -- the moment after one event more, if it is the next one and draws nothing

@@ -7,10 +7,11 @@ use Rattle.live_commit.specs.declared.phase.Phase.TheVariants.{Idle, Clearing, A
 use Rattle.damon_core.specs.State.{State, row_count}
 use Rattle.damon_core.specs.Event.{ByHit, load, next_hit, observe, touch}
 use Rattle.damon_core.specs.After.{after}
-use Rattle.damon_core.specs.Makes.{ReachedByHit-run}
+use Rattle.damon_core.proofs.Lemmas.{ReachedByHit-run}
 use Rattle.damon_core.specs.Reached.{AllByHit, AllFit, ReachedByHit, run}
 use Rattle.damon_world.specs.Moment.{Moment, event_in, events_of_steps, moved, next_event, stepped_times}
-use Rattle.damon_world.specs.Plays.{Plays, PlaysByHit, PlaysByHit-from, along-state}
+use Rattle.damon_world.specs.Plays.{Plays, PlaysByHit}
+use Rattle.damon_world.proofs.Following.{PlaysByHit-from, along-state}
 use Rattle.damon_world.specs.Stands.{WorldView}
 use Rattle.damon_world.specs.Touches.{touches}
 

@@ -1,6 +1,7 @@
 pub mod Parts
 pub mod Notes
 pub mod Drawn
+pub mod Following
 pub mod Stepping
 pub mod Committing
 pub mod Advancing

@@ -14,7 +14,7 @@ use Rattle.damon_core.specs.Steps.{IsPass, pass_steps}
 use Rattle.damon_world.specs.Moment.{Moment, event_in, events_of_steps, moved, next_event, stepped, stepped_times}
 use Rattle.sampler.specs.Draws.{drawn}
 use Rattle.damon_world.specs.Pass.{core_after, TakesItsSteps}
-use Rattle.damon_world.specs.Steps.{events_append, events_more, stepped_more}
+use Rattle.damon_world.proofs.Following.{events_append, events_more, stepped_more}
 use Rattle.damon_world.proofs.Stepping.{event_in-load, is_last, not_last}
 use Rattle.damon_world.proofs.Advancing.{clears_to}
 

@@ -3,7 +3,6 @@ pub mod Drawing
 pub mod Moment
 pub mod Stands
 pub mod Plays
-pub mod Steps
 pub mod Touches
 pub mod Advance
 pub mod Kept

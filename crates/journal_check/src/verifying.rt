@@ -21,7 +21,7 @@ use std::alloc::Global;
 /// Checks whether a text of at most [`MAX_BYTES`] bytes is the journal text of a lawful run, and returns
 /// the counts of its journal.
 ///
-/// The text is read once, line by line, and each entry is carried out as it is read. Allocates.
+/// Each line is gone over at most twice, and each entry is carried out once. Allocates.
 ///
 /// # Errors
 ///

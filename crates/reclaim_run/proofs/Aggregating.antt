@@ -10,7 +10,7 @@ use Rattle.scheme_engine.specs.Slots.{SlotValue}
 use Rattle.damon_core.specs.After.{after}
 use Rattle.damon_core.specs.Aggregate.{aggregated, served}
 use Rattle.damon_core.specs.Event.{aggregate}
-use Rattle.damon_core.specs.Makes.{Reached-run}
+use Rattle.damon_core.proofs.Lemmas.{Reached-run}
 use Rattle.damon_core.specs.Reached.{Reached}
 use Rattle.damon_core.specs.Slots.{slots_of}
 use Rattle.damon_core.specs.Stands.{MonitorView}

@@ -12,7 +12,8 @@ use Rattle.live_commit.specs.Commit.{CommitValue}
 use Rattle.damon_core.specs.After.{cleared_core, phase_after_pass, phase_cleared, prepared_core}
 use Rattle.damon_core.specs.Commit.{check_of, core_after_commit}
 use Rattle.damon_core.specs.Event.{aggregate, clear_index, load, observe, prepare}
-use Rattle.damon_core.specs.Makes.{Makes, Makes-append, Reached-run}
+use Rattle.damon_core.specs.Makes.{Makes}
+use Rattle.damon_core.proofs.Lemmas.{Makes-append, Reached-run}
 use Rattle.damon_core.specs.Reached.{CanOpen, Reached, run}
 use Rattle.damon_core.specs.Several.{clears}
 use Rattle.damon_core.specs.State.{Core, row_count}

@@ -19,7 +19,7 @@ use Rattle.damon_core.specs.After.{after, by_clear, by_load, by_observe, phase_c
 use Rattle.damon_core.specs.Event.{Event, touch, prepare, clear, load, observe, aggregate, commit, show, IsObserving}
 use Rattle.damon_core.specs.Several.{clears}
 use Rattle.damon_core.specs.Reached.{AllFit, Reached, run}
-use Rattle.damon_core.specs.Makes.{Reached-run}
+use Rattle.damon_core.proofs.Lemmas.{Reached-run}
 use Rattle.damon_control.specs.Live.{CallValue, CommitCall, LiveValue, ShowCall}
 use Rattle.run_journal.specs.declared.entry.Entry.{Entry}
 use Rattle.run_journal.specs.declared.entry.Entry.TheVariants.{Prepare, Check, Void, Aggregate, Call}

@@ -5,7 +5,8 @@ use mathlib.Core.List.{map-append}
 use Rattle.live_commit.specs.declared.phase.Phase.TheVariants.{Armed, Checking}
 use Rattle.damon_core.specs.After.{loaded_core}
 use Rattle.damon_core.specs.Event.{load, IsLoading, IsObserving, load_index}
-use Rattle.damon_core.specs.Makes.{Makes, Makes-append}
+use Rattle.damon_core.specs.Makes.{Makes}
+use Rattle.damon_core.proofs.Lemmas.{Makes-append}
 use Rattle.damon_core.specs.State.{Core}
 use Rattle.damon_core.specs.Stands.{MonitorView, Stands}
 use Rattle.run_journal.specs.Phases.{phase_loaded}

@@ -25,7 +25,7 @@ use Rattle.damon_core.specs.State.{Core, State, opening, row_count, set_note}
 use Rattle.damon_core.specs.After.{after, phase_after_pass}
 use Rattle.damon_core.specs.Event.{prepare, load, observe}
 use Rattle.damon_core.specs.InPhase.{IsInPhase}
-use Rattle.damon_core.specs.Makes.{AllByHit-append, AllFit-append, run-append}
+use Rattle.damon_core.proofs.Lemmas.{AllByHit-append, AllFit-append, run-append}
 use Rattle.damon_core.specs.Pass.{IsInPass, PagesRiseFrom}
 use Rattle.damon_core.specs.Several.{clears}
 use Rattle.damon_core.specs.Reached.{AllByHit, AllFit, Reached, ReachedByHit, run}

@@ -4,7 +4,7 @@ use Rattle.std.specs.Prelude.{◌&&◌, ◌==◌, not}
 use Rattle.damon_types.specs.Space.{pages_of}
 use Rattle.damon_core.specs.After.{after}
 use Rattle.damon_core.specs.Event.{Event}
-use Rattle.damon_core.specs.Makes.{AllByHit-append, AllFit-append, run-append}
+use Rattle.damon_core.proofs.Lemmas.{AllByHit-append, AllFit-append, run-append}
 use Rattle.damon_core.specs.Reached.{AllByHit, AllFit, CanOpen, Reached, run}
 use Rattle.damon_core.specs.State.{State, opening}
 use Rattle.damon_control.specs.Live.{LiveValue}

@@ -7,7 +7,7 @@ use Rattle.script_lines.specs.Command.{CommandValue, Touch, Sweep, Step, Arm, Fi
 use Rattle.script_run.specs.Unfold.{command_events, commands_events}
 use Rattle.damon_core.specs.Reached.{AllFit, Reached, run}
 use Rattle.damon_world.specs.Moment.{Moment, along}
-use Rattle.damon_world.specs.Plays.{Reached-along, along-append, along-state}
+use Rattle.damon_world.proofs.Lemmas.{Reached-along, along-append, along-state}
 use Rattle.script_run.specs.Callbacks.{Callbacks, put_after}
 use Rattle.script_run.specs.Course.{Course, course_after, going_with, with_puts}
 use Rattle.damon_core.specs.State.{State}

@@ -20,11 +20,11 @@ use Rattle.damon_core.specs.Bound.{Bound}
 use Rattle.damon_core.specs.Choosing.{ServesBest}
 use Rattle.damon_core.specs.InPhase.{IsInPhase}
 use Rattle.damon_core.specs.Pass.{IsPickWithin}
-use Rattle.damon_core.specs.Makes.{AllByHit-append, AllFit-append}
+use Rattle.damon_core.proofs.Lemmas.{AllByHit-append, AllFit-append}
 use Rattle.damon_core.specs.Reached.{AllByHit, AllFit, CanOpen, Reached, ReachedByHit, run}
 use Rattle.sampler.specs.Draws.{drawn}
 use Rattle.damon_world.specs.Moment.{Moment, along, event_in, moved, next_event}
-use Rattle.damon_world.specs.Plays.{Reached-along, along-state}
+use Rattle.damon_world.proofs.Lemmas.{Reached-along, along-state}
 use Rattle.damon_world.specs.Touches.{touches}
 use Rattle.damon_world.proofs.Lemmas.{by_hit-in}
 use Rattle.script_lines.specs.Command.{CommandValue, Touch, Sweep, Step, Arm, Finish, Show, Commit}

@@ -8,14 +8,16 @@ use Rattle.live_commit.specs.Commit.{CommitValue}
 use Rattle.damon_core.specs.After.{after}
 use Rattle.damon_core.specs.Commit.{commit_answer}
 use Rattle.damon_core.specs.Event.{Event, Fits, aggregate, commit}
-use Rattle.damon_core.specs.Makes.{AllFit-append, Makes, Reached-run}
+use Rattle.damon_core.specs.Makes.{Makes}
+use Rattle.damon_core.proofs.Lemmas.{AllFit-append, Reached-run}
 use Rattle.damon_core.specs.Reached.{AllFit, Reached}
 use Rattle.damon_core.specs.Stands.{MonitorView, Stands}
 use Rattle.damon_core.specs.State.{Core, State, row_count}
 use Rattle.sampler.specs.Draws.{drawn}
 use Rattle.damon_world.specs.Advance.{steps_of_kind}
 use Rattle.damon_world.specs.Moment.{Moment, along, event_in, events_of_steps, moved, next_event}
-use Rattle.damon_world.specs.Plays.{Plays, Reached-along, along-append, along-state}
+use Rattle.damon_world.specs.Plays.{Plays}
+use Rattle.damon_world.proofs.Lemmas.{Reached-along, along-append, along-state}
 use Rattle.damon_world.specs.Stands.{StandsFor, WorldView}
 use Rattle.snapshot_print.specs.Writing.{Writing}
 use Rattle.snapshot_print.specs.Printed.{printed_monitor, printed_state}

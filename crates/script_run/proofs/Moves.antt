@@ -12,7 +12,8 @@ use Rattle.damon_core.specs.Makes.{Makes}
 use Rattle.damon_core.specs.Reached.{Reached}
 use Rattle.damon_world.specs.Advance.{AreAmid}
 use Rattle.damon_world.specs.Moment.{Moment, events_of_steps, next_event}
-use Rattle.damon_world.specs.Plays.{Plays, along-state}
+use Rattle.damon_world.specs.Plays.{Plays}
+use Rattle.damon_world.proofs.Lemmas.{along-state}
 use Rattle.damon_world.specs.Stands.{StandsAt, StandsFor, WorldView}
 use Rattle.damon_world.specs.Touches.{touches}
 use Rattle.snapshot_print.specs.Forms.{writing_of}

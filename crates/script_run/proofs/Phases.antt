@@ -10,7 +10,7 @@ use Rattle.damon_core.specs.After.{after, by_clear, by_load, by_observe, counted
 use Rattle.damon_core.specs.Event.{Event, load, next_hit, observe}
 use Rattle.damon_core.specs.InPhase.{IsInPhase}
 use Rattle.damon_core.specs.Pass.{IsPickWithin}
-use Rattle.damon_core.specs.Makes.{Reached-run}
+use Rattle.damon_core.proofs.Lemmas.{Reached-run}
 use Rattle.damon_core.specs.Note.{Note}
 use Rattle.damon_core.specs.Reached.{Reached}
 use Rattle.damon_core.specs.State.{State, row_count}

@@ -4,7 +4,7 @@ use Rattle.std.proofs.Common.{◌∙◌, ap, sym, subst, append-nil, append_asso
 use Rattle.rand_core.specs.Stream.{Stream}
 use Rattle.damon_core.specs.State.{State, opening}
 use Rattle.damon_core.specs.Reached.{AllFit, CanOpen, Reached, run}
-use Rattle.damon_core.specs.Makes.{AllFit-append}
+use Rattle.damon_core.proofs.Lemmas.{AllFit-append}
 use Rattle.damon_world.specs.Stands.{StandsFor}
 use Rattle.damon_control.specs.Script.{ScriptValue}
 use Rattle.snapshot_print.specs.declared.form.Form.{Form}

@@ -17,7 +17,7 @@ use Rattle.damon_core.specs.Note.{Note, touched, cleared, checked, finished, voi
 use Rattle.damon_core.specs.Reached.{run}
 use Rattle.damon_core.specs.Slots.{scheme_of, slot_count}
 use Rattle.damon_core.specs.State.{State, opening}
-use Rattle.damon_world.specs.Plays.{along-state}
+use Rattle.damon_world.proofs.Lemmas.{along-state}
 use Rattle.damon_control.specs.Script.{ScriptValue}
 use Rattle.damon_control.specs.Sound.{IsSound}
 use Rattle.script_run.specs.Course.{Course, course_after, going_with}

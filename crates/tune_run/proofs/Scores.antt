@@ -14,7 +14,7 @@ use Rattle.damon_core.specs.Reached.{run}
 use Rattle.damon_core.specs.Slots.{slot_count}
 use Rattle.damon_core.specs.State.{State}
 use Rattle.damon_core.proofs.Lemmas.{IsNoCommit}
-use Rattle.damon_world.specs.Plays.{along-state}
+use Rattle.damon_world.proofs.Lemmas.{along-state}
 use Rattle.script_run.specs.Course.{Course, course_after, going_with}
 use Rattle.script_run.specs.Going.{onward}
 use Rattle.quota_goal.specs.declared.goals.Goal.{Goal}

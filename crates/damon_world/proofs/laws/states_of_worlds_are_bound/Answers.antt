@@ -1,6 +1,6 @@
 use Rattle.std.proofs.Common.{[], ◌∷◌}
 use Rattle.damon_core.specs.Event.{commit}
-use Rattle.damon_core.specs.Makes.{ReachedByHit-run}
+use Rattle.damon_core.proofs.Lemmas.{ReachedByHit-run}
 use Rattle.damon_world.proofs.Hits.{stepped_by_hit, touched_by_hit}
 use Rattle.damon_world.proofs.laws.states_of_worlds_are_bound.Goals as goal
 

@@ -9,7 +9,7 @@ use Rattle.damon_world.specs.Pages.{ArePagesOf}
 use Rattle.damon_world.proofs.Committing.{word_of-commit}
 use Rattle.damon_world.proofs.Notes.{same_pages}
 use Rattle.std.proofs.Common.{[], ◌∷◌}
-use Rattle.damon_core.specs.Makes.{ReachedByHit-run, reached_of}
+use Rattle.damon_core.proofs.Lemmas.{ReachedByHit-run, reached_of}
 use Rattle.damon_world.proofs.world.World.commit.Goals as goal
 
 pub returns-clause-event : goal.returns-clause-event

@@ -3,7 +3,7 @@ use Rattle.damon_types.specs.Space.{pages_of}
 use Rattle.damon_core.specs.State.{Core}
 use Rattle.damon_world.specs.Stands.{StandsFor}
 use Rattle.damon_world.proofs.Notes.{AllFit-touches, pages_touched, stands-touches}
-use Rattle.damon_core.specs.Makes.{ReachedByHit-run, reached_of}
+use Rattle.damon_core.proofs.Lemmas.{ReachedByHit-run, reached_of}
 use Rattle.damon_world.specs.Touches.{touches}
 use Rattle.damon_world.proofs.Hits.{touches_by_hit}
 use Rattle.damon_world.proofs.world.World.sweep.Goals as goal

@@ -5,7 +5,7 @@ use Rattle.damon_world.specs.Stands.{StandsFor}
 use Rattle.damon_world.proofs.Notes.{AllFit-touches, pages_touched, stands-touches}
 use Rattle.std.proofs.Common.{[], ◌∷◌}
 use Rattle.damon_core.specs.Event.{touch}
-use Rattle.damon_core.specs.Makes.{ReachedByHit-run, reached_of}
+use Rattle.damon_core.proofs.Lemmas.{ReachedByHit-run, reached_of}
 use Rattle.damon_world.proofs.world.World.touch_page.Goals as goal
 
 pub returns-clause-event : goal.returns-clause-event

@@ -1,6 +1,6 @@
 use Rattle.std.proofs.Common.{◌+◌, ◌<◌, [], ◌∷◌, length, map, refl, ap, sym, ◌∙◌, subst}
 use Rattle.damon_core.specs.Event.{IsObserving, load, observe}
-use Rattle.damon_core.specs.Makes.{Makes-append}
+use Rattle.damon_core.proofs.Lemmas.{Makes-append}
 use Rattle.damon_core.specs.State.{Core, row_count}
 use Rattle.damon_core.specs.Stands.{Stands, last_pass}
 use Rattle.run_journal.specs.declared.entry.Entry.TheVariants.{Check}

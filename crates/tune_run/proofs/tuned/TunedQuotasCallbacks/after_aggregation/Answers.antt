@@ -7,7 +7,7 @@ use Rattle.damon_types.specs.RowPages.{row_pages}
 use Rattle.damon_core.specs.After.{after}
 use Rattle.damon_core.specs.Aggregate.{served}
 use Rattle.damon_core.specs.Event.{aggregate}
-use Rattle.damon_core.specs.Makes.{Reached-run}
+use Rattle.damon_core.proofs.Lemmas.{Reached-run}
 use Rattle.damon_core.specs.Reached.{Reached}
 use Rattle.damon_core.specs.Report.{ReportValue}
 use Rattle.damon_core.specs.State.{Core}
