@@ -10,5 +10,4 @@ pub mod Working
 pub mod Wholes
 pub mod OwnText
 pub mod Known
-pub mod Counting
 pub mod Ending

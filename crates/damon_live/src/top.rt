@@ -109,17 +109,23 @@ pub fn live_main<R: Threads + Wait + Sync, S: Source, K: Sink, P: Pace + Sync>(
     ensures end { asks_run words.now ≡ true → IsRead result.status → IsAtEnd (S.left source.new) }
     ensures unread { asks_run words.now ≢ true → source.new ≡ source.old }
 {
-    serve(rt, alloc, words, source, sink, pace)
+    serve(Host { rt, pace }, alloc, words, source, sink)
+}
+
+// What the threads of a run take from outside: how they are made and wait, and what holds them.
+#[derive(Drop)]
+struct Host<'a, R, P> {
+    rt: &'a R,
+    pace: &'a P,
 }
 
 // Does what the words ask for.
 fn serve<R: Threads + Wait + Sync, S: Source, K: Sink, P: Pace + Sync>(
-    rt: &R,
+    host: Host<R, P>,
     alloc: Global,
     words: &[String],
     source: &mut S,
     sink: &mut K,
-    pace: &P,
 ) -> LiveEnd
     ensures { IsEnding INPUT_LIMIT (asks_run words.now)
         (record { bytes = S.left source.old; calls = S.calls source.old })
@@ -132,7 +138,7 @@ fn serve<R: Threads + Wait + Sync, S: Source, K: Sink, P: Pace + Sync>(
     if !asks_run(words) {
         return end_early(alloc, Status::Usage);
     }
-    match carry_out(rt, alloc, source, pace) {
+    match carry_out(host, alloc, source) {
         Ok(run) => {
             let status = Status::from(hand_over(alloc, &run, sink));
             end_run(status, run)
@@ -188,10 +194,9 @@ fn end_run(status: Status, run: AloneRun) -> LiveEnd
 
 // Reads a live script to its end and carries it out.
 fn carry_out<R: Threads + Wait + Sync, S: Source, P: Pace + Sync>(
-    rt: &R,
+    host: Host<R, P>,
     alloc: Global,
     source: &mut S,
-    pace: &P,
 ) -> Result<AloneRun, Status>
     ensures taken { IfOk result (λ run. IsTaken INPUT_LIMIT
         (record { bytes = S.left source.old; calls = S.calls source.old })
@@ -209,7 +214,7 @@ fn carry_out<R: Threads + Wait + Sync, S: Source, P: Pace + Sync>(
         (record { bytes = S.left source.new; calls = S.calls source.new })) }
 {
     let script = take_script(alloc, source)?;
-    let run = run_threads(rt, alloc, script, pace)?;
+    let run = run_threads(host.rt, alloc, script, host.pace)?;
     Ok(run)
 }
 

@@ -23,7 +23,7 @@ mod source;
 
 use crate::callbacks::{Callbacks, NoCallbacks};
 use crate::part::{Part, Start, Until, is_done, start_of, touched_page};
-use crate::together::{make_aggregation, make_commit, make_touches};
+use crate::together::{Printer, make_aggregation, make_commit, make_touches};
 use damon_control::{Commands, MAX_WORK, Script};
 use damon_core::Monitor;
 use damon_world::{Jump, World};
@@ -224,10 +224,10 @@ impl<R: Jump + Drop, C: Callbacks + Drop> Player<R, C> {
             }
             Start::Commit(commit) => {
                 self.part = Part::NOTHING;
+                let form = self.form;
                 make_commit(
-                    alloc,
+                    Printer { alloc, form },
                     out,
-                    self.form,
                     &mut self.world,
                     &mut self.callbacks,
                     commit,
@@ -289,7 +289,13 @@ impl<R: Jump + Drop, C: Callbacks + Drop> Player<R, C> {
             until,
             most: most - 1,
         };
-        make_aggregation(alloc, out, self.form, &mut self.world, &mut self.callbacks)
+        let form = self.form;
+        make_aggregation(
+            Printer { alloc, form },
+            out,
+            &mut self.world,
+            &mut self.callbacks,
+        )
     }
 
     // Appends the text of a show.

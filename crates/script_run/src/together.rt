@@ -18,6 +18,13 @@ use live_commit::{Commit, Phase};
 use snapshot_print::{Form, print_aggregate, print_commit};
 use std::alloc::{AllocError, Global};
 
+// How the text of events is appended: in which form, and with which memory.
+#[derive(Clone, Copy)]
+pub struct Printer {
+    pub alloc: Global,
+    pub form: Form,
+}
+
 // Touches some pages of a world, one after another. One page alone, as most commands say, takes less time
 // than a sweep.
 pub fn make_touches<R: Jump + Drop>(world: &mut World<R>, page: u32, count: u32)
@@ -37,9 +44,8 @@ pub fn make_touches<R: Jump + Drop>(world: &mut World<R>, page: u32, count: u32)
 
 // Makes the aggregation that is due with the commits that are put in after it, and appends what they write.
 pub fn make_aggregation<R: Jump + Drop, C: Callbacks + Drop>(
-    alloc: Global,
+    printer: Printer,
     out: &mut Vec<u8>,
-    form: Form,
     world: &mut World<R>,
     callbacks: &mut C,
 ) -> Result<(), AllocError>
@@ -47,7 +53,7 @@ pub fn make_aggregation<R: Jump + Drop, C: Callbacks + Drop>(
     requires ticks { world.old.monitor.core.ticks < 2 ^ 40 }
     requires somewhere { StandSomewhere R.stream C.stands_for world.old callbacks.old }
     ensures made { OnOk result (IsMade R.stream C.callbacks C.stands_for world.old world.new
-        callbacks.old callbacks.new (writing_of form) out.old.items out.new.items
+        callbacks.old callbacks.new (writing_of printer.form) out.old.items out.new.items
         (λ r. next_event r.moment.state r.moment.stream ∷ [])) }
     ensures err { OnErr result (KeepsFront out.old.items out.new.items) }
 
@@ -58,23 +64,22 @@ pub fn make_aggregation<R: Jump + Drop, C: Callbacks + Drop>(
 {
     world.advance(1);
     callbacks.after_aggregation(world.monitor());
-    print_aggregate(alloc, out, form, world.monitor())?;
-    callbacks.append_lines(alloc, out, world.monitor())?;
-    put_in(alloc, out, form, world, callbacks)
+    print_aggregate(printer.alloc, out, printer.form, world.monitor())?;
+    callbacks.append_lines(printer.alloc, out, world.monitor())?;
+    put_in(printer, out, world, callbacks)
 }
 
 // Makes a commit of the script with those that are put in after it, and appends their lines.
 pub fn make_commit<R: Jump + Drop, C: Callbacks + Drop>(
-    alloc: Global,
+    printer: Printer,
     out: &mut Vec<u8>,
-    form: Form,
     world: &mut World<R>,
     callbacks: &mut C,
     commit: &Commit,
 ) -> Result<(), AllocError>
     requires { StandSomewhere R.stream C.stands_for world.old callbacks.old }
     ensures made { OnOk result (IsMade R.stream C.callbacks C.stands_for world.old world.new
-        callbacks.old callbacks.new (writing_of form) out.old.items out.new.items
+        callbacks.old callbacks.new (writing_of printer.form) out.old.items out.new.items
         (λ r. commit_event (commit_value commit.now) ∷ [])) }
     ensures err { OnErr result (KeepsFront out.old.items out.new.items) }
 
@@ -85,22 +90,22 @@ pub fn make_commit<R: Jump + Drop, C: Callbacks + Drop>(
 {
     let answer = world.commit(commit);
     callbacks.after_commit(commit, &answer);
+    let Printer { alloc, form } = printer;
     print_commit(alloc, out, form, world.monitor().ticks(), &answer)?;
-    put_in(alloc, out, form, world, callbacks)
+    put_in(printer, out, world, callbacks)
 }
 
 // Makes the commits that callbacks still put in, and appends their lines.
 #[inline]
 fn put_in<R: Jump + Drop, C: Callbacks + Drop>(
-    alloc: Global,
+    printer: Printer,
     out: &mut Vec<u8>,
-    form: Form,
     world: &mut World<R>,
     callbacks: &mut C,
 ) -> Result<(), AllocError>
     requires { StandSomewhere R.stream C.stands_for world.old callbacks.old }
     ensures made { OnOk result (ArePutIn R.stream C.stands_for world.old world.new
-        callbacks.old callbacks.new (writing_of form) out.old.items out.new.items
+        callbacks.old callbacks.new (writing_of printer.form) out.old.items out.new.items
         (C.pending callbacks.old)) }
     ensures err { OnErr result (KeepsFront out.old.items out.new.items) }
 
@@ -110,21 +115,20 @@ fn put_in<R: Jump + Drop, C: Callbacks + Drop>(
     ensures space { world.new.monitor.core.space ≡ world.old.monitor.core.space }
 {
     'puts: while let Some(next) = callbacks.next_commit() {
-        put_commit(alloc, out, form, world, &next)?;
+        put_commit(printer, out, world, &next)?;
     }
     Ok(())
 }
 
 // Makes one commit of a world, and appends its line.
 fn put_commit<R: Jump + Drop>(
-    alloc: Global,
+    printer: Printer,
     out: &mut Vec<u8>,
-    form: Form,
     world: &mut World<R>,
     commit: &Commit,
 ) -> Result<(), AllocError>
     ensures ok { OnOk result (out.new.items ≡ out.old.items
-        ++ (writing_of form).commit world.old.monitor.core.ticks
+        ++ (writing_of printer.form).commit world.old.monitor.core.ticks
         (commit_answer (commit_value commit.now) world.old.monitor.core)) }
     ensures err { OnErr result (out.new.items ≡ out.old.items) }
     ensures event { Makes StandsFor world.old world.new (commit_event (commit_value commit.now) ∷ []) }
@@ -133,5 +137,6 @@ fn put_commit<R: Jump + Drop>(
     ensures ticks { world.new.monitor.core.ticks ≡ world.old.monitor.core.ticks }
 {
     let answer = world.commit(commit);
+    let Printer { alloc, form } = printer;
     print_commit(alloc, out, form, world.monitor().ticks(), &answer)
 }

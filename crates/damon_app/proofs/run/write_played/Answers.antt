@@ -2,7 +2,8 @@ use Rattle.std.proofs.Common.{[], refl}
 use Rattle.std.proofs.lemmas.Result.{err_from_is_err_and}
 use Rattle.damon_control.specs.ScriptView.{said_by}
 use Rattle.text_io.proofs.Lemmas.{EndsAtFault-none, EndsAtFault-not}
-use Rattle.damon_app.proofs.Counting.{no_fault_of_memory, pump_ends, pump_writes}
+use Rattle.run_status.proofs.Lemmas.{pump_ends, pump_writes}
+use Rattle.damon_app.proofs.Counting.{no_fault_of_memory}
 use Rattle.damon_app.proofs.run.write_played.Goals as goal
 
 pub returns-in_err-player-clause-writes : goal.returns-in_err-player-clause-writes

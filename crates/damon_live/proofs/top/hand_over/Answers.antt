@@ -1,6 +1,6 @@
 use Rattle.std.proofs.lemmas.Result.{err_from_is_err_and}
 use Rattle.text_io.proofs.Lemmas.{EndsAtFault-not}
-use Rattle.damon_live.proofs.Counting.{pump_ends, pump_writes}
+use Rattle.run_status.proofs.Lemmas.{pump_ends, pump_writes}
 use Rattle.damon_live.proofs.top.hand_over.Goals as goal
 
 pub returns-in_err-pump-clause-answers : goal.returns-in_err-pump-clause-answers

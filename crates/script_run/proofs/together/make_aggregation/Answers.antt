@@ -92,7 +92,7 @@ returns-clause-made g c =
     let x = c.args.out.now.items in
     let y = c.print_aggregate.new.out.items in
     let z = c.append_lines.new.out.items in
-    let writing = writing_of c.args.form in
+    let writing = writing_of c.args.printer.form in
     let grew = c.in_ok-print_aggregate.ensures.ok ∙ ap (λ v. x ++ writing.aggregate (printed_monitor v)) c.monitor-2.ensures in
     let writes = aggregation_writes stream k stands old new kk told.new.self writing x y z due plays follow grew
     (λ memory s words stood shows. c.in_ok-append_lines.ensures.ok memory s words stood (subst (λ v. Stands v s) (sym c.monitor-3.ensures) shows)) in
@@ -118,7 +118,7 @@ returns-clause-err g c =
     let x = c.args.out.now.items in
     let y = c.print_aggregate.new.out.items in
     let z = c.append_lines.new.out.items in
-    let writing = writing_of c.args.form in
+    let writing = writing_of c.args.printer.form in
     let grew = c.in_ok-print_aggregate.ensures.ok ∙ ap (λ v. x ++ writing.aggregate (printed_monitor v)) c.monitor-2.ensures in
     let writes = aggregation_writes stream k stands old new kk told.new.self writing x y z due plays follow grew
     (λ memory s words stood shows. c.in_ok-append_lines.ensures.ok memory s words stood (subst (λ v. Stands v s) (sym c.monitor-3.ensures) shows)) in

@@ -45,7 +45,7 @@ returns-clause-made g c =
     let told = c.after_commit in
     let x = c.args.out.now.items in
     let y = c.print_commit.new.out.items in
-    let writing = writing_of c.args.form in
+    let writing = writing_of c.args.printer.form in
     let plays = commit_plays stream k stands old made.new.self c.args.callbacks.now told.new.self parts made.ensures.source made.ensures.event (λ memory s reached stood same. told.ensures.stands memory s (record { reached = reached; stood = stood; is = made.ensures.answer ∙ same })) in
     let grew = c.in_ok-print_commit.ensures.ok
     ∙ ap (λ t. x ++ writing.commit t made.result) (c.ticks.ensures ∙ ap (λ v. v.core.ticks) c.monitor.ensures ∙ made.ensures.ticks)

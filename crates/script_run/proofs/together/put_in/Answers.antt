@@ -9,7 +9,7 @@ use Rattle.script_run.proofs.together.put_in.Goals as goal
 
 pub puts-init : goal.puts-init
 puts-init g c = record {
-  so_far = puts-none g.R.Rng.stream g.C.Callbacks.stands_for g.C.Callbacks.pending c.args.world.now c.args.callbacks.now (writing_of c.args.form) c.args.out.now.items;
+  so_far = puts-none g.R.Rng.stream g.C.Callbacks.stands_for g.C.Callbacks.pending c.args.world.now c.args.callbacks.now (writing_of c.args.printer.form) c.args.out.now.items;
   somewhere = c.requires;
   ticks = refl;
   space = refl;
@@ -17,7 +17,7 @@ puts-init g c = record {
 
 pub puts-preserved-in_ok-put_commit : goal.puts-preserved-in_ok-put_commit
 puts-preserved-in_ok-put_commit g c =
-    let all = puts-next g.R.Rng.stream g.C.Callbacks.stands_for g.C.Callbacks.pending c.args.world.now c.puts.world c.put_commit.new.world c.args.callbacks.now c.puts.callbacks c.next_commit.new.self (writing_of c.args.form) c.args.out.now.items c.puts.out.items c.put_commit.new.out.items (commit_value c.in-Some.next) c.puts.invariant.so_far c.puts.invariant.somewhere c.in-Some.ensures.next c.put_commit.ensures.source c.put_commit.ensures.event c.in-Some.ensures.stands c.in_ok-put_commit.ensures.ok in
+    let all = puts-next g.R.Rng.stream g.C.Callbacks.stands_for g.C.Callbacks.pending c.args.world.now c.puts.world c.put_commit.new.world c.args.callbacks.now c.puts.callbacks c.next_commit.new.self (writing_of c.args.printer.form) c.args.out.now.items c.puts.out.items c.put_commit.new.out.items (commit_value c.in-Some.next) c.puts.invariant.so_far c.puts.invariant.somewhere c.in-Some.ensures.next c.put_commit.ensures.source c.put_commit.ensures.event c.in-Some.ensures.stands c.in_ok-put_commit.ensures.ok in
     record {
       so_far = all.0;
       somewhere = all.1;
@@ -27,7 +27,7 @@ puts-preserved-in_ok-put_commit g c =
 
 pub puts-preserved : goal.puts-preserved
 puts-preserved g c =
-    let all = puts-next g.R.Rng.stream g.C.Callbacks.stands_for g.C.Callbacks.pending c.args.world.now c.puts.world c.put_commit.new.world c.args.callbacks.now c.puts.callbacks c.next_commit.new.self (writing_of c.args.form) c.args.out.now.items c.puts.out.items c.put_commit.new.out.items (commit_value c.in-Some.next) c.puts.invariant.so_far c.puts.invariant.somewhere c.in-Some.ensures.next c.put_commit.ensures.source c.put_commit.ensures.event c.in-Some.ensures.stands c.in_ok-put_commit.ensures.ok in
+    let all = puts-next g.R.Rng.stream g.C.Callbacks.stands_for g.C.Callbacks.pending c.args.world.now c.puts.world c.put_commit.new.world c.args.callbacks.now c.puts.callbacks c.next_commit.new.self (writing_of c.args.printer.form) c.args.out.now.items c.puts.out.items c.put_commit.new.out.items (commit_value c.in-Some.next) c.puts.invariant.so_far c.puts.invariant.somewhere c.in-Some.ensures.next c.put_commit.ensures.source c.put_commit.ensures.event c.in-Some.ensures.stands c.in_ok-put_commit.ensures.ok in
     record {
       so_far = all.0;
       somewhere = all.1;
@@ -56,8 +56,8 @@ returns-clause-made g c =
     let stream = g.R.Rng.stream in
     let stands = g.C.Callbacks.stands_for in
     let none = c.in_default.is in
-    subst (λ kk. ArePutIn stream stands c.args.world.now c.puts.world c.args.callbacks.now kk (writing_of c.args.form) c.args.out.now.items c.puts.out.items (g.C.Callbacks.pending c.args.callbacks.now)) (sym (c.next_commit.ensures.same none))
-    (puts-all stream stands g.C.Callbacks.pending c.args.world.now c.puts.world c.args.callbacks.now c.puts.callbacks (writing_of c.args.form) c.args.out.now.items c.puts.out.items c.puts.invariant.so_far (c.next_commit.ensures.none none))
+    subst (λ kk. ArePutIn stream stands c.args.world.now c.puts.world c.args.callbacks.now kk (writing_of c.args.printer.form) c.args.out.now.items c.puts.out.items (g.C.Callbacks.pending c.args.callbacks.now)) (sym (c.next_commit.ensures.same none))
+    (puts-all stream stands g.C.Callbacks.pending c.args.world.now c.puts.world c.args.callbacks.now c.puts.callbacks (writing_of c.args.printer.form) c.args.out.now.items c.puts.out.items c.puts.invariant.so_far (c.next_commit.ensures.none none))
 
 pub returns-clause-somewhere : goal.returns-clause-somewhere
 returns-clause-somewhere g c =

@@ -7,7 +7,7 @@ use Rattle.script_run.proofs.together.put_in.Given as goal
 -- some of the commits were made, and their lines are there
 abbrev pub invariant-puts : goal.invariant-puts
 invariant-puts g l = record {
-  so_far : PutsSoFar g.R.Rng.stream g.C.Callbacks.stands_for g.C.Callbacks.pending l.fn.world l.world l.fn.callbacks l.callbacks (writing_of l.fn.form) l.fn.out.items l.out.items;
+  so_far : PutsSoFar g.R.Rng.stream g.C.Callbacks.stands_for g.C.Callbacks.pending l.fn.world l.world l.fn.callbacks l.callbacks (writing_of l.fn.printer.form) l.fn.out.items l.out.items;
   somewhere : StandSomewhere g.R.Rng.stream g.C.Callbacks.stands_for l.world l.callbacks;
   ticks : l.world.monitor.core.ticks ≡ l.fn.world.monitor.core.ticks;
   space : l.world.monitor.core.space ≡ l.fn.world.monitor.core.space;

@@ -1,0 +1,2 @@
+mod Pumps
+pub mod Lemmas
