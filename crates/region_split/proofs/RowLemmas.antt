@@ -1,7 +1,6 @@
 -- Splitting from left to right splits each row by the rule, and no other list does.
-use Rattle.std.proofs.Common.{◌≡◌, ℕ, suc, ◌+◌, ◌-◌, ◌<◌, Bool, List, [], ◌∷◌, ◌++◌, length, length-append, map, refl, sym, ap, ◌∙◌, subst, append_assoc, arith}
+use Rattle.std.proofs.Common.{◌≡◌, ℕ, suc, ◌+◌, ◌-◌, Bool, List, [], ◌∷◌, ◌++◌, length, length-append, map, refl, sym, ap, ◌∙◌, subst, append_assoc, arith}
 use Rattle.std.proofs.lemmas.List.{length-map}
-use Rattle.std.specs.List.{flat_map}
 use Rattle.damon_types.specs.declared.row.Row.{Row}
 use Rattle.region_split.specs.Cut.{SplitLimits}
 use Rattle.region_split.specs.Split.{parts_of, split_from, split_rows, wants_three}

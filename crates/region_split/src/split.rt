@@ -76,12 +76,14 @@ impl RowPass for Split<'_> {
                 made.append_rows(rows, index as usize, rows.count());
                 return;
             }
-            let first = self.words[2 * index as usize];
-            let second = self.words[2 * index as usize + 1];
+            let words = (
+                self.words[2 * index as usize],
+                self.words[2 * index as usize + 1],
+            );
             count = if self.three {
-                push_three_parts(self.limits, count, rows.next(index), first, second, made)
+                push_three_parts(self.limits, count, rows.next(index), words, made)
             } else {
-                push_two_parts(self.limits, count, rows.next(index), first, made)
+                push_two_parts(self.limits, count, rows.next(index), words.0, made)
             };
         }
     }
@@ -107,22 +109,22 @@ fn push_two_parts(limits: Limits, count: usize, row: Row, word: u32, made: &mut 
     }
 }
 
-// Pushes a row, or its parts where it may be cut: three where its right side may be cut too.
-// `count` is the number of rows now, and the result the number after the cuts.
+// Pushes a row, or its parts where it may be cut by its two words: three where its right side may be cut
+// too. `count` is the number of rows now, and the result the number after the cuts.
 fn push_three_parts(
     limits: Limits,
     count: usize,
     row: Row,
-    first: u32,
-    second: u32,
+    words: (u32, u32),
     made: &mut RowBuf,
 ) -> usize
     requires end { row.start + row.pages < 2 ^ 32 }
-    requires room { length made.old.rows + length (three_parts limits count first second row)
+    requires room { length made.old.rows + length (three_parts limits count words.0 words.1 row)
         ≤ made.old.cap }
-    ensures rows { made.new ≡ record made.old { rows = made.old.rows ++ three_parts limits count first second row } }
-    ensures count { result ≡ count + length (three_parts limits count first second row) - 1 }
+    ensures rows { made.new ≡ record made.old { rows = made.old.rows ++ three_parts limits count words.0 words.1 row } }
+    ensures count { result ≡ count + length (three_parts limits count words.0 words.1 row) - 1 }
 {
+    let (first, second) = words;
     let at = cut_place(row.pages, first);
     if may_cut(limits, count, row.pages, at) {
         made.push(left(&row, at));

@@ -2,7 +2,7 @@
 use Rattle.std.proofs.Common.{◌≡◌, ◌≢◌, ℕ, zero, suc, ◌+◌, ◌-◌, ◌≤◌, ◌<◌, Bool, true, false, cond, List, [], ◌∷◌, ◌++◌, Option, Some, None, length, map, get_or, refl, sym, ap, ◌∙◌, subst, inl, inr, arith}
 use Rattle.std.specs.Prelude.{◌&&◌, ◌⊎◌, All, IsPermutation, fold, nat_lt, nat_le}
 use Rattle.std.specs.List.{flat_map}
-use Rattle.std.specs.Option.{option_map_or, option_or, unwrap_or}
+use Rattle.std.specs.Option.{option_or, unwrap_or}
 use Rattle.std.proofs.lemmas.Bool.{cases_eq, cases_order, lt-ltb, ltb-true}
 use Rattle.std.proofs.lemmas.List.{get_or-map, length-map}
 use Rattle.std.proofs.lemmas.Option.{get_or_from_slice_get, slice_get_within}
@@ -21,7 +21,7 @@ use Rattle.priority.specs.Candidates.{DistinctStarts}
 use Rattle.priority.specs.Order.{InPriority}
 use Rattle.priority.specs.Share.{with_shares}
 use Rattle.scheme_engine.specs.declared.cut.Part.{Part}
-use Rattle.scheme_engine.specs.Outcome.{changes_rows, cut_in_two, taken_until, may_cut_row, renewed, row_after, rows_after}
+use Rattle.scheme_engine.specs.Outcome.{changes_rows, cut_in_two, taken_until, may_cut_row, renewed, rows_after}
 use Rattle.scheme_engine.specs.Applying.{IsCandidateOf, IsPartOf, cut_rows, index_of, next_part, part_of, rows_cut, rows_renewed}
 use Rattle.scheme_engine.specs.Kept.{IsInPart, OneInPart}
 use Rattle.scheme_engine.specs.Taken.{span_at}

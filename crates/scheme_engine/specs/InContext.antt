@@ -6,8 +6,8 @@ use Rattle.scheme_filter.specs.Passes.{passes}
 use Rattle.scheme_engine.specs.declared.pages.Context.{Context}
 use Rattle.scheme_engine.specs.declared.pages.ServedScheme.{ServedScheme}
 use Rattle.scheme_engine.specs.Outcome.{Outcome, outcome_of}
-use Rattle.scheme_engine.specs.Served.{ServedSlot, scheme_served, slot_served}
-use Rattle.scheme_engine.specs.Slots.{SetScheme, SlotValue}
+use Rattle.scheme_engine.specs.Served.{ServedSlot, slot_served}
+use Rattle.scheme_engine.specs.Slots.{SlotValue}
 
 -- whether a page in these ranges passes the filters of a scheme
 abbrev pub passes_in : ServedScheme → List Range → ℕ → Bool
@@ -16,10 +16,6 @@ passes_in s ranges = passes s.scheme.now.filters s.space.now ranges
 -- the outcome of a scheme, where `left` is what is left of its quota
 abbrev pub outcome_in : ServedScheme → Option ℕ → RegionList → Outcome
 outcome_in s left regions = outcome_of s.number s.space.now s.aggr s.scheme.now left regions
-
--- a slot with this scheme, if any, that is served
-abbrev pub scheme_served_in : Context → RegionList → SlotValue → Option SetScheme → ServedSlot
-scheme_served_in c regions s set = scheme_served c.number c.space.now c.aggr regions s set
 
 -- a slot that is served, whose window may begin anew
 abbrev pub slot_served_in : Context → RegionList → SlotValue → ServedSlot

@@ -2,13 +2,13 @@
 ghost use Rattle.std.specs.Prelude.{◌≡◌, ◌+◌, ◌*◌, ◌≤◌, ◌<◌, ◌++◌, ◌∷◌, [], length, Some, IsSome, IfSome};
 ghost use Rattle.damon_types.specs.Within.{AreWithin};
 ghost use Rattle.scheme_engine.specs.Engine.{FitsSlot};
-ghost use Rattle.scheme_engine.specs.InContext.{outcome_in, scheme_served_in, slot_served_in};
+ghost use Rattle.scheme_engine.specs.InContext.{outcome_in, slot_served_in};
 
 use crate::apply::apply;
 use crate::candidates::gather;
 use crate::cut::cut_part;
 use crate::pages::{Context, ServedScheme};
-use crate::slot::{SetScheme, Slot};
+use crate::slot::Slot;
 use crate::{Applied, RUNS_PER_ROW, SLOTS, SlotChoice};
 use priority::{Candidates, Chosen};
 use region_list::Regions;
@@ -52,46 +52,9 @@ pub(crate) fn serve(
     ensures cap { candidates.new.cap ≡ candidates.old.cap }
 {
     slot.turn(context.tick);
-    if let Some(set) = slot.scheme() {
-        serve_set(slot, &set, context, candidates, regions, applied);
-    }
-}
-
-// Serves a slot whose scheme this is, and whose window is that of this tick.
-fn serve_set(
-    slot: &mut Slot,
-    set: &SetScheme,
-    context: &Context,
-    candidates: &mut Candidates,
-    regions: &mut Regions,
-    applied: &mut Applied,
-)
-    requires set { slot.old.set ≡ Some set.now }
-    requires within { AreWithin context.now.space.now regions.old.ranges }
-    requires aggr { 1 ≤ context.now.aggr }
-    requires cap { candidates.old.cap ≡ regions.old.cap }
-    requires room { length applied.old.runs + MAX_RUNS * regions.old.cap
-        ≤ RUNS_PER_ROW * applied.old.cap }
-    requires choices { length applied.old.choices < SLOTS }
-    requires fits { FitsSlot (scheme_served_in context.now regions.old slot.old
-        (Some set.now)).slot }
-    ensures slot { slot.new ≡ (scheme_served_in context.now regions.old slot.old
-        (Some set.now)).slot }
-    ensures rows { regions.new ≡ record regions.old {
-      rows = (scheme_served_in context.now regions.old slot.old
-          (Some set.now)).rows;
-    } }
-    ensures applied { applied.new ≡ record applied.old {
-      runs = applied.old.runs ++ (scheme_served_in context.now regions.old slot.old
-          (Some set.now)).runs;
-      choices = applied.old.choices ++ (scheme_served_in context.now regions.old slot.old
-          (Some set.now)).choices;
-    } }
-    ensures few { length applied.new.runs
-        ≤ length applied.old.runs + MAX_RUNS * regions.old.cap }
-    ensures one { length applied.new.choices ≤ length applied.old.choices + 1 }
-    ensures cap { candidates.new.cap ≡ candidates.old.cap }
-{
+    let Some(set) = slot.scheme() else {
+        return;
+    };
     if !set.gauge.active() {
         applied.push_choice(SlotChoice {
             slot: context.number,
