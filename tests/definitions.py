@@ -28,6 +28,7 @@ sys.path.insert(0, str(Path(__file__).resolve().parent.parent / "tools"))
 
 from blocks import with_block, with_blocks
 from sources import TOP, Definition, Repository
+from unfollowed import unfollowed
 
 PAGE = TOP / "docs/DEFINITIONS.md"
 LISTED = TOP / "docs/generated/DEFINITIONS.md"
@@ -165,6 +166,9 @@ def main(words: List[str]) -> None:
     silent = [it.path() for it in repository.definitions if not it.words]
     if silent:
         sys.exit("these have no comment above them: " + ", ".join(silent))
+    strange = unfollowed(repository)
+    if strange:
+        sys.exit("these words name a definition and are not followed to it: " + ", ".join(strange))
     if words[0] in ("--write", "--check"):
         for file, write in ((PAGE, written), (LISTED, lists_written), (THEOREM, theorem_written), (README, theorem_written)):
             old = file.read_text()

@@ -12,7 +12,8 @@ The heads of the page's tables say what is in them:
     | clause | ..             a clause in each line, of the top call that the section's title names; the table has all of them
     | law | ..                an exported function, with its crate
     | crate | .. | contract | exported functions and methods of the crate that the line names, and in brackets the names
-                              of clauses that at least one of them has. A definition may be named in place of a function
+                              of clauses that at least one of them has. A definition may be named in place of a function.
+                              Each crate that exports a function has one line, in the order of the list
 """
 import re
 import sys
@@ -24,6 +25,8 @@ PAGE = TOP / "docs/PROMISES.md"
 LIST = TOP / "docs/generated/FUNCTIONS.md"
 TOP_CALLS = ("damon_app::replay_main", "damon_live::live_main")
 NAME = re.compile(r"`([^`]*)`")
+# The head of a table of crates, and its lines.
+CRATES = re.compile(r"^\| crate \|.*\n\|[-|]+\n((?:\| `.*\n)*)", re.M)
 # Functions, and the bracket with clauses that may follow them.
 GROUP = re.compile(r"((?:[^`(]*`[^`]*`)+)\s*(?:\(([^)]*)\))?")
 # How a comment links a name.
@@ -57,9 +60,18 @@ def faults_of(page: str, repository: Repository) -> List[str]:
     given = {name for names in named for name in names}
     there = {name for name in repository.clauses if name.startswith(tuple(call + "." for call in TOP_CALLS))}
     faults += [f"{name} is missing" for name in sorted(there - given)]
+    shown = [NAME.findall(line)[0] for lines in CRATES.findall(page) for line in lines.splitlines()]
+    if shown != exporting(repository):
+        faults.append("its table of crates has not one line for each crate, in their order")
     if not there or len(named) < len(there):
         faults.append("too few names were found in its tables")
     return faults
+
+
+def exporting(repository: Repository) -> List[str]:
+    """The crates that export a function, in their order."""
+    there = {name.partition("::")[0] for name in repository.functions}
+    return [crate for crate in repository.crates if crate in there]
 
 
 def names_in(page: str) -> Iterator[List[str]]:
@@ -92,12 +104,10 @@ def names_in_cell(crate: str, cell: str) -> Iterator[List[str]]:
 def listed(repository: Repository) -> str:
     """The page of all exported functions."""
     lines = [HEAD]
-    for crate in repository.crates:
-        names = [name for name in repository.functions if name.startswith(f"{crate}::")]
-        if names:
-            lines += [f"## `{crate}`", "", "| function | clauses | in words |", "|---|---|---|"]
-            lines += [row(name, repository) for name in names]
-            lines.append("")
+    for crate in exporting(repository):
+        lines += [f"## `{crate}`", "", "| function | clauses | in words |", "|---|---|---|"]
+        lines += [row(name, repository) for name in repository.functions if name.startswith(f"{crate}::")]
+        lines.append("")
     return "\n".join(lines)
 
 

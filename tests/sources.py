@@ -81,10 +81,11 @@ class Repository:
         self.definitions: List[Definition] = []
         self.clauses: Dict[str, List[Named]] = {}
         self.functions: Dict[str, Contract] = {}
-        self._scopes: Dict[Tuple[str, str], Scope] = {}
+        self.scopes: Dict[Tuple[str, str], Scope] = {}
         lines = (top / "crates.txt").read_text().splitlines()
         self.crates = [line.split(":")[0].split()[0] for line in lines if line]
-        exports: Exports = {}
+        self.exports: Exports = {}
+        exports = self.exports
         texts = {}
         for crate in self.crates:
             exports.update(constants_of(top / "crates" / crate))
@@ -94,7 +95,7 @@ class Repository:
                 self.definitions += found
                 exports[crate, name] = {word: it for it in found for word in [it.name, *constructors(it)]}
         for place, text in texts.items():
-            self._scopes[place] = {**scope_of(text, exports), **exports[place]}
+            self.scopes[place] = {**scope_of(text, exports), **exports[place]}
         for crate in self.crates:
             self.clauses.update(exported_clauses(top / "crates" / crate, exports))
             self.functions.update(exported_functions(top / "crates" / crate))
@@ -136,7 +137,7 @@ class Repository:
             if it not in found:
                 found.add(it)
                 if isinstance(it, Definition):
-                    waiting += names_in(it, self._scopes[it.crate, it.file])
+                    waiting += names_in(it, self.scopes[it.crate, it.file])
         return found
 
 

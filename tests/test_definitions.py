@@ -11,6 +11,7 @@ from typing import Dict, List
 
 import definitions
 from sources import Repository, types_of
+from unfollowed import unfollowed
 
 LIB = "pub mod First\n"
 
@@ -59,6 +60,22 @@ class Counting(OfSources):
         for unknown in ("opaque pub two : ℕ\n", "two = 2\n", "module _ where\n  abbrev pub two : ℕ\n  two = 2\n"):
             with self.assertRaisesRegex(SystemExit, "low/specs/First.antt: no definition, law or import has this line"):
                 self.specs("use Rattle.std.specs.Prelude.{ℕ}\n\n-- one\nabbrev pub one : ℕ\none = 1\n\n" + unknown)
+
+    def test_a_word_that_is_not_followed_is_told(self) -> None:
+        use = "use Rattle.high.specs.First.{one}\n\n"
+        sources = {"high/specs/Lib.antt": LIB, "high/specs/First.antt": "-- one\nabbrev pub one : ℕ\none = 1\n",
+                   "low/specs/Lib.antt": LIB, "low/specs/First.antt": f"{use}-- two\nabbrev pub two : ℕ\ntwo = one + 1\n",
+                   "low/src/lib.rt": f"ghost {use}pub fn count() -> u32\n    ensures all {{ result ≡ one }}\n{{\n    1\n}}\n"}
+        self.assertEqual(unfollowed(self.repository(sources)), [])
+        for name, told in (("low/specs/First.antt", "low/First.two: one"), ("low/src/lib.rt", "low::count.all: one")):
+            for other in ("", "use Rattle.high.specs.Other.{one}\n"):
+                text = sources[name].replace(f"ghost {use}", other).replace(use, other)
+                self.assertEqual(unfollowed(self.repository({**sources, name: text})), [told])
+        for known in ("two = record { one = 1 }", "two = λ one. one", "two one = one", "two = (one : ℕ) × one"):
+            text = sources["low/specs/First.antt"].replace(use, "").replace("two = one + 1", known)
+            self.assertEqual(unfollowed(self.repository({**sources, "low/specs/First.antt": text})), [], known)
+        text = sources["low/specs/First.antt"].replace("Rattle.high", "Rattle.std")
+        self.assertEqual(unfollowed(self.repository({**sources, "low/specs/First.antt": text})), [])
 
     def test_laws_and_operators_are_known(self) -> None:
         repository = self.specs(

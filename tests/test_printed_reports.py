@@ -93,12 +93,10 @@ class Formats(unittest.TestCase):
         self.bodies = [block for block in BLOCK.findall(worked) if block not in self.reports]
 
     def test_worked_examples(self) -> None:
-        self.assertEqual((self.bodies[0], len(self.bodies), len(self.reports)), (self.first, 3, 4))
+        self.assertEqual((self.bodies[0], len(self.bodies), len(self.reports)), (self.first, 2, 3))
         often = self.setup.replace("attrs 3 8 5", "attrs 3 8 1")
-        scheme = "scheme 3 pageout quota=4096,5 marks=500,400,200\n"
         at_once = self.first.replace(self.setup, often).replace("step 4", "arm", 1).replace("step 4", "finish")
-        scripts = [self.first, at_once, f"{self.setup}begin\n{self.bodies[1]}end\n", f"{often}{scheme}begin\n{self.bodies[2]}end\n"]
-        for script, printed in zip(scripts, self.reports):
+        for script, printed in zip([self.first, at_once, f"{self.setup}begin\n{self.bodies[1]}end\n"], self.reports):
             self.assertEqual(printed, report_of(script))
 
     def test_commands(self) -> None:

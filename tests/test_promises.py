@@ -49,8 +49,11 @@ PAGE = """
 
 | crate | promise | contract |
 |---|---|---|
+| `damon_app` | all | `replay_main` |
 | `low` | a number is found | `find` (`found`), `Store::put` |
 """
+
+CRATES = "its table of crates has not one line for each crate, in their order"
 
 
 class Promises(OfSources):
@@ -69,7 +72,12 @@ class Promises(OfSources):
         self.assertEqual(self.faults(PAGE.replace("`find`", "`seek`")), ["there is no low::seek", "there is no low::seek.found"])
         self.assertEqual(self.faults(PAGE.replace("(`found`)", "(`lost`)")), ["there is no low::find.lost"])
         self.assertEqual(self.faults(PAGE.replace("`low`", "`high`")),
-                         ["there is no high::find", "there is no high::find.found", "there is no high::Store::put"])
+                         ["there is no high::find", "there is no high::find.found", "there is no high::Store::put", CRATES])
+
+    def test_each_crate_has_one_line_in_order(self) -> None:
+        whole, low = "| `damon_app` | all | `replay_main` |\n", "| `low` | a number is found | `find` (`found`), `Store::put` |\n"
+        for lines in (low, low + whole, whole + whole + low):
+            self.assertEqual(self.faults(PAGE.replace(whole + low, lines)), [CRATES], lines)
 
     def test_each_clause_of_a_top_call_is_wanted(self) -> None:
         self.assertEqual(self.faults(PAGE.replace("`ok`, `bound`", "`ok`")), ["damon_app::replay_main.bound is missing"])
