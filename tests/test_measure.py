@@ -17,6 +17,7 @@ from unittest import mock
 import measure
 import measure_tools
 import speed_bounds
+import speed_profile
 from figures import Figures, Measured, Subject, joined, lines_of, load, save, written
 from measure import Inputs, Job, Program, jobs_of, order_of, parse_words, program_of
 from speed_bounds import Bound, asked, bounds_table, load_bounds, save_bounds, timed
@@ -311,6 +312,49 @@ class Tools(unittest.TestCase):
         self.assertEqual(found.runs, 20)
         self.assertGreater(found.whole, found.alone)
         self.assertGreater(found.alone, 0)
+
+
+
+ANNOTATED = """
+--------------------------------------------------------------------------------
+Ir
+--------------------------------------------------------------------------------
+2,000,000 (100.0%)  PROGRAM TOTALS
+
+1,118,200 (55.91%)  ???:scheme_engine::candidates::gather [/crates/damon/out/damon]
+  334,000 (16.70%)  ???:sampler::picks::pick_drawn::<#7d7afd824526ae40> [/crates/damon/out/damon]
+   80,000 ( 4.00%)  ./string/memmove.S:__memcpy_avx_unaligned_erms [/usr/lib/libc.so.6]
+   20,000 ( 1.00%)  ???:a::fourth::function [/crates/damon/out/damon]
+"""
+
+
+class Profiles(unittest.TestCase):
+    found = {Subject("small", 1, "proved"): speed_profile.profile_of(ANNOTATED), Subject("small", 1, "plain"): speed_profile.Profile(1_500_000, {"all": 90})}
+
+    def test_functions_that_take_most(self) -> None:
+        self.assertEqual(self.found[Subject("small", 1, "proved")], speed_profile.Profile(
+            2_000_000, {"scheme_engine::candidates::gather": 56, "sampler::picks::pick_drawn": 17, "__memcpy_avx_unaligned_erms": 4}))
+
+    def test_a_file_is_read_back(self) -> None:
+        with tempfile.TemporaryDirectory() as folder:
+            path = Path(folder) / "profile.csv"
+            self.assertEqual(speed_profile.load_profiles(path), {})
+            speed_profile.save_profiles(path, self.found)
+            self.assertEqual(speed_profile.load_profiles(path), self.found)
+
+    def test_a_row_has_both_programs(self) -> None:
+        self.assertEqual(speed_profile.table(self.found)[2:], [
+            "| small | 1 | 2.0 | `scheme_engine::candidates::gather` 56 %, `sampler::picks::pick_drawn` 17 %, `__memcpy_avx_unaligned_erms` 4 % "
+            "| 1.5 | `all` 90 % |"])
+
+    def test_workloads_that_take_more(self) -> None:
+        def measured(ours: Figures, other: Figures) -> Measured:
+            return {Subject("small", 3, "proved"): ours, Subject("small", 3, "plain"): other}
+
+        less, more = Figures([1.0], 0, 10), Figures([2.0], 0, 10)
+        self.assertEqual(speed_profile.are_slower(measured(less, more), [SMALL, OTHER]), [])
+        self.assertEqual(speed_profile.are_slower(measured(more, less), [SMALL, OTHER]), [SMALL])
+        self.assertEqual(speed_profile.are_slower(measured(Figures([1.0], 0, 11), more), [SMALL]), [SMALL])
 
 
 if __name__ == "__main__":
