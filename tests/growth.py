@@ -47,13 +47,13 @@ def rows_of(page: str) -> list[list[str]]:
 
 
 def growths_of(page: str) -> list[Growth]:
-    """What the table of a page says, less the time of its row `start`."""
+    """What the table of a page says, less the time of its row `start`; a workload that takes hardly longer than that is left out."""
     rows = rows_of(page)
     start = next(milliseconds(cell) for row in rows if row[0] == START for cell in row if TIME.fullmatch(cell))
     found = []
     for name, _, *cells in rows:
         pairs = [(int(size.replace(",", "")), milliseconds(time) - start) for size, time in zip(cells[::2], cells[1::2]) if SIZE.fullmatch(size)]
-        if len(pairs) > 1:
+        if len(pairs) > 1 and all(time > 0 for _, time in pairs):
             most_size, most_time = pairs[0]
             found.append(Growth(name, [(size / most_size, time / most_time) for size, time in pairs]))
     return found

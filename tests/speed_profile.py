@@ -5,7 +5,7 @@
     tests/speed_profile.py --write | --check [--csv FILE]
 
 The workloads are those for which this program takes more time or more instructions than the baseline by the figures of
-docs/performance.csv; `--only` takes those whose names begin with NAME. A run has the second size of its workload, where it has two.
+docs/performance.csv, by more than the noise; `--only` takes those whose names begin with NAME. A run has the second size of its workload, where it has two.
 The figures are kept in FILE, which is docs/profile.csv where no other is named. `--write` makes the table of docs/PERFORMANCE.md
 from it, and with `--check` the exit status is 1 where that would change the page.
 """
@@ -29,6 +29,8 @@ from speed_workloads import WORKLOADS, Workload
 
 PROFILE = "profile.csv"
 COLUMNS = ["workload", "size", "program", "instructions", "functions"]
+# Less than this many times what the other program takes is noise.
+NOISE = 1.02
 # How many functions are shown of a run.
 SHOWN = 3
 TOTALS = "PROGRAM TOTALS"
@@ -76,8 +78,8 @@ def are_slower(measured: Measured, workloads: Sequence[Workload]) -> List[Worklo
         ours, other = (measured.get(Subject(it.name, it.sizes[0], program)) for program in (OURS, OTHER))
         if it.program != "damon" or not ours or not other:
             continue
-        has_more = (ours.instructions or 0) > (other.instructions or 0)
-        if has_more or (ours.milliseconds and other.milliseconds and ours.median() > other.median()):
+        has_more = (ours.instructions or 0) > NOISE * (other.instructions or 0)
+        if has_more or (ours.milliseconds and other.milliseconds and ours.median() > NOISE * other.median()):
             found.append(it)
     return found
 
