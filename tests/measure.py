@@ -171,8 +171,8 @@ def program_of(word: str) -> Program:
 
 def parse_words(words: Optional[Sequence[str]] = None) -> argparse.Namespace:
     parser = argparse.ArgumentParser(description=__doc__, formatter_class=argparse.RawDescriptionHelpFormatter)
-    parser.add_argument("turns", type=int, nargs="?", default=0, metavar="TURNS", help="how often each program is run on each workload")
-    parser.add_argument("programs", nargs="*", metavar="PROGRAM", help="the last one is what the others are compared with")
+    parser.add_argument("words", nargs="*", metavar="[TURNS] [PROGRAM ...]",
+                        help="how often each program is run on each workload, and the programs, of which the last one is what the others are compared with")
     parser.add_argument("--only", default="", metavar="NAME", help="the workloads whose names begin with NAME")
     parser.add_argument("--sizes", action="store_true", help="all sizes of the workloads")
     parser.add_argument("--seed", type=int, default=1, help="what the orders depend on")
@@ -182,7 +182,9 @@ def parse_words(words: Optional[Sequence[str]] = None) -> argparse.Namespace:
     kinds.add_argument("--bounds", action="store_true", help="measure what the machine bounds")
     kinds.add_argument("--write", action="store_true", help="make the tables of the page")
     kinds.add_argument("--check", action="store_true", help="tell whether the tables of the page are those of the file")
-    given = parser.parse_args(words)
+    given = parser.parse_intermixed_args(words)
+    has_turns = bool(given.words) and given.words[0].isdigit()
+    given.turns, given.programs = (int(given.words[0]), given.words[1:]) if has_turns else (0, given.words)
     if given.turns < 1 and not (given.instructions or given.write or given.check):
         parser.error("TURNS is at least 1")
     return given

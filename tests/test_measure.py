@@ -111,6 +111,8 @@ class Words(unittest.TestCase):
     def test_a_run_needs_turns(self) -> None:
         self.assertEqual(parse_words(["7"]).turns, 7)
         self.assertTrue(parse_words(["--check"]).check)
+        self.assertEqual(parse_words(["--instructions", "one=a", "two=b"]).programs, ["one=a", "two=b"])
+        self.assertEqual(parse_words(["3", "--bounds", "one=a"]).programs, ["one=a"])
         with self.assertRaises(SystemExit), mock.patch("sys.stderr"):
             parse_words([])
 
