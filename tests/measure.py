@@ -172,7 +172,7 @@ def program_of(word: str) -> Program:
 def parse_words(words: Optional[Sequence[str]] = None) -> argparse.Namespace:
     parser = argparse.ArgumentParser(description=__doc__, formatter_class=argparse.RawDescriptionHelpFormatter)
     parser.add_argument("words", nargs="*", metavar="[TURNS] [PROGRAM ...]",
-                        help="how often each program is run on each workload, and the programs, of which the last one is what the others are compared with")
+                        help="how often each program is run on each workload, and the programs: the others are compared with the last one")
     parser.add_argument("--only", default="", metavar="NAME", help="the workloads whose names begin with NAME")
     parser.add_argument("--sizes", action="store_true", help="all sizes of the workloads")
     parser.add_argument("--seed", type=int, default=1, help="what the orders depend on")

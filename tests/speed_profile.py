@@ -5,9 +5,9 @@
     tests/speed_profile.py --write | --check [--csv FILE]
 
 The workloads are those for which this program takes more time or more instructions than the baseline by the figures of
-docs/performance.csv, by more than the noise; `--only` takes those whose names begin with NAME. A run has the second size of its workload, where it has two.
-The figures are kept in FILE, which is docs/profile.csv where no other is named. `--write` makes the table of docs/PERFORMANCE.md
-from it, and with `--check` the exit status is 1 where that would change the page.
+docs/performance.csv, by more than the noise; `--only` takes those whose names begin with NAME. A run has the second size of its
+workload, where it has two. The figures are kept in FILE, which is docs/profile.csv where no other is named. `--write` makes the
+table of docs/PERFORMANCE.md from it, and with `--check` the exit status is 1 where that would change the page.
 """
 import argparse
 import csv

@@ -331,7 +331,10 @@ Ir
 
 
 class Profiles(unittest.TestCase):
-    found = {Subject("small", 1, "proved"): speed_profile.profile_of(ANNOTATED), Subject("small", 1, "plain"): speed_profile.Profile(1_500_000, {"all": 90})}
+    found = {
+        Subject("small", 1, "proved"): speed_profile.profile_of(ANNOTATED),
+        Subject("small", 1, "plain"): speed_profile.Profile(1_500_000, {"all": 90}),
+    }
 
     def test_functions_that_take_most(self) -> None:
         self.assertEqual(self.found[Subject("small", 1, "proved")], speed_profile.Profile(
