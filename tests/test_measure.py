@@ -224,6 +224,7 @@ class Page(unittest.TestCase):
     @unittest.skipUnless(measure.KEPT.exists(), "no figures are kept: tests/measure.py TURNS --csv docs/performance.csv makes them")
     def test_the_page_is_that_of_its_figures(self) -> None:
         self.assertEqual(measure.main(["--check"]), 0)
+        self.assertEqual(speed_profile.main(["--check"]), 0)
 
 
 BOUND = Bound(15, 40_000, 1000, 300, 30, 16, 0.5, 0.25, 1.0, 0.25)
