@@ -3,7 +3,7 @@
 //!     bounds read                     reads standard input and looks at each byte
 //!     bounds write BYTES              puts each byte of a text into a piece and writes the piece
 //!     bounds draw WORDS               draws random words
-//!     bounds access CHECKS ROWS WORDS clears and loads words of a table, as passes over so many rows do
+//!     bounds access CHECKS ROWS WORDS clears and loads words of a table, as passes over ROWS rows do
 //!
 //! With one more word, `say`, the result is written to standard error. It is computed without that word too,
 //! since only the run decides whether it is written.
@@ -58,7 +58,7 @@ fn line_feeds(bytes: &[u8]) -> u64 {
     bytes.iter().map(|&byte| (byte == b'\n') as u8).sum::<u8>().into()
 }
 
-/// Writes so many bytes. Each piece ends with a line feed, so standard output keeps nothing back.
+/// Writes this number of bytes. Each full piece ends with a line feed, up to which standard output writes at once.
 fn write(bytes: usize) -> io::Result<u64> {
     let text: Vec<u8> = (1..=PIECE).map(|at| if at % 64 == 0 { b'\n' } else { b'x' }).collect();
     let mut piece = vec![0; PIECE];
@@ -74,7 +74,7 @@ fn write(bytes: usize) -> io::Result<u64> {
     Ok(bytes as u64)
 }
 
-/// The sum of so many random words.
+/// The sum of this number of random words.
 fn draw(words: usize) -> u64 {
     let mut random = Random::new(1);
     let mut drawn = vec![0; DRAWN];
@@ -89,7 +89,7 @@ fn draw(words: usize) -> u64 {
     sum
 }
 
-/// Stores to a place of each row and then loads each, pass after pass, until there were so many checks.
+/// Stores to a place of each row and then loads each, pass after pass, until this number of checks is reached.
 fn access(checks: usize, rows: usize, words: usize) -> u64 {
     let mut random = Random::new(1);
     // The places of few passes stay in the cache; a large table needs more, or few of its lines are touched.
