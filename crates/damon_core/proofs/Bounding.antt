@@ -1,9 +1,10 @@
 -- What holds of each state that is reached by true results.
+use Rattle.std.proofs.Common.{subst}
 use Rattle.damon_core.specs.State.{State}
 use Rattle.damon_core.specs.Slots.{slot_count}
 use Rattle.damon_core.specs.Aggregate.{merged_regions}
 use Rattle.damon_core.specs.Reached.{ReachedByHit}
-use Rattle.damon_core.specs.Bound.{Bound, EachRunIsWithin}
+use Rattle.damon_core.specs.Bound.{Bound}
 use Rattle.damon_core.proofs.Adapting.{merged_tiled}
 use Rattle.damon_core.proofs.Committing.{committed_notes_hold}
 use Rattle.damon_core.proofs.Keeping.{Keeps, any_result, reached_keeps, reached_by_hit_keeps, reached_of}
@@ -12,6 +13,7 @@ use Rattle.damon_core.proofs.Rows.{HasRows, rows_kept, rows_of}
 use Rattle.damon_core.proofs.Hits.{HasHits, hits_kept}
 use Rattle.damon_core.proofs.Passes.{HasPasses, passes_kept}
 use Rattle.damon_core.proofs.Served.{runs_within}
+use Rattle.damon_core.proofs.Walks.{EachHitRests, EachRunIsWithin, finished_checks, hit_rests, run_is_within, void_checks_nothing}
 
 -- what is kept of the runs of schemes
 record HasRuns (s : State) : Type 0 where
@@ -43,4 +45,13 @@ reached_bound s reached =
     let passes = reached_keeps HasPasses (passes_kept any_result) s (reached_of s reached) in
     let hits = reached_by_hit_keeps HasHits hits_kept s reached in
     let runs = reached_keeps HasRuns runs_kept s (reached_of s reached) in
-    record { tiles = passes.rows.tiles; few = passes.rows.few; max = passes.rows.max; most = passes.rows.most; passes = passes.passes; hits = hits.rests; runs = runs.runs }
+    record {
+      tiles = passes.rows.tiles;
+      few = passes.rows.few;
+      max = passes.rows.max;
+      most = passes.rows.most;
+      passes = λ n rows at. finished_checks s.notes s.notes n rows passes.passes at;
+      voids = λ n at. void_checks_nothing s.notes s.notes n passes.passes at;
+      hits = λ later earlier n k p is. hit_rests later earlier n k p (subst EachHitRests is hits.rests);
+      runs = λ later earlier slot tick tried applied exceeds is. run_is_within later earlier slot tick tried applied exceeds (subst EachRunIsWithin is runs.runs);
+    }

@@ -7,14 +7,14 @@ use Rattle.damon_types.specs.declared.row.Row.{Row}
 use Rattle.live_commit.specs.declared.phase.Phase.{Phase}
 use Rattle.live_commit.specs.declared.phase.Phase.TheVariants.{Idle, Clearing, Armed, Checking, Void, Due}
 use Rattle.live_commit.specs.Commit.{CommitValue}
-use Rattle.damon_core.specs.Note.{Note, touched, cleared, checked, finished, voided, set, dropped, metric, turned, ran, cost, is_cleared, is_touched, has_clear, touched_after_clear, hit}
+use Rattle.damon_core.specs.Note.{Note, touched, cleared, checked, finished, voided, set, dropped, metric, turned, ran, cost, is_cleared, is_touched, hit}
 use Rattle.damon_core.specs.State.{State, row_count}
 use Rattle.damon_core.specs.Event.{IsLoading, load_index, next_hit}
 use Rattle.damon_core.specs.After.{phase_cleared, phase_after_pass, loaded_at, by_clear}
 use Rattle.damon_core.specs.Commit.{check_of, committed, committed_core, committed_notes}
 use Rattle.damon_core.specs.Reached.{Reached}
 use Rattle.damon_core.specs.Pass.{cleared_so_far}
-use Rattle.damon_core.specs.Bound.{EachHitRests}
+use Rattle.damon_core.proofs.Walks.{EachHitRests, has_clear, touched_after_clear}
 use Rattle.damon_core.proofs.Committing.{allows_commit, by_phase_after, committed_notes_hold, same_length}
 use Rattle.damon_core.proofs.Keeping.{Keeps, any_result, true_result, reached_keeps}
 use Rattle.damon_core.proofs.Opening.{opening_holds}

@@ -3,6 +3,7 @@ mod SlotNotes
 mod SlotFacts
 mod Setting
 mod Serving
+mod Walks
 mod Served
 mod Keeping
 mod Shown

@@ -19,7 +19,7 @@ use Rattle.damon_core.specs.Commit.{check_of, committed, committed_core, committ
 use Rattle.damon_core.specs.After.{phase_cleared, phase_after_pass, prepared_core, loaded_at, finished_pass, by_clear, by_observe}
 use Rattle.damon_core.specs.Kept.{loaded_so_far}
 use Rattle.damon_core.specs.Pass.{IsPickWithin}
-use Rattle.damon_core.specs.Bound.{EachPassChecks}
+use Rattle.damon_core.proofs.Walks.{EachPassChecks}
 use Rattle.damon_core.proofs.Committing.{allows_commit, by_phase_after, committed_notes_hold, none_loaded, none_loaded_after}
 use Rattle.damon_core.proofs.Keeping.{Keeps}
 use Rattle.damon_core.proofs.Opening.{opening_holds}

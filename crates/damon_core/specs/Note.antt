@@ -62,16 +62,3 @@ abbrev pub was_hit : List Note → ℕ → ℕ → Bool
 was_hit [] pass k = false
 was_hit (checked n j p hit ∷ earlier) pass k = ((n == pass) && ((j == k) && hit)) || was_hit earlier pass k
 was_hit (_ ∷ earlier) pass k = was_hit earlier pass k
-
--- whether the pass cleared the page as its pick k
-abbrev pub has_clear : List Note → ℕ → ℕ → ℕ → Bool
-has_clear [] pass k page = false
-has_clear (cleared n j p ∷ earlier) pass k page = ((n == pass) && ((j == k) && (p == page))) || has_clear earlier pass k page
-has_clear (_ ∷ earlier) pass k page = has_clear earlier pass k page
-
--- whether the page was touched after the pass had cleared it as its pick k
-abbrev pub touched_after_clear : List Note → ℕ → ℕ → ℕ → Bool
-touched_after_clear [] pass k page = false
-touched_after_clear (touched p ∷ earlier) pass k page =
-    ((p == page) && has_clear earlier pass k page) || touched_after_clear earlier pass k page
-touched_after_clear (_ ∷ earlier) pass k page = touched_after_clear earlier pass k page
