@@ -11,14 +11,15 @@ use Rattle.scheme_engine.specs.Slots.{SetScheme}
 use Rattle.scheme_engine.proofs.Lemmas.{outcome_best, outcome_tiled}
 use Rattle.damon_core.specs.Note.{Note}
 use Rattle.damon_core.specs.Aggregate.{merged_regions}
-use Rattle.damon_core.specs.Choosing.{EachSlotServed, IsSlotServed, ServesBest, left_then}
-use Rattle.damon_core.specs.Serve.{Serving, nothing_served, run_served, serve_scheme, serve_slot, with_turn}
+use Rattle.damon_core.specs.Choosing.{EachSlotServed, IsSlotServed, ServesBest}
+use Rattle.damon_core.specs.Serve.{Serving, nothing_served, serve_scheme, serve_slot, with_turn, left_then}
 use Rattle.damon_core.specs.Slots.{is_active_in, scheme_of, slot_count}
 use Rattle.damon_core.specs.State.{State}
 use Rattle.damon_core.proofs.Adapting.{merged_tiled}
 use Rattle.damon_core.proofs.Rows.{HasRows, rows_of}
 use Rattle.damon_core.proofs.Served.{slot_rows_hold}
 use Rattle.damon_core.proofs.Serving.{turn_is}
+use Rattle.damon_core.proofs.ServeParts.{run_served}
 
 -- a slot that is served, by its scheme, and by whether that is active
 by_scheme : (slot : ℕ) (space : List Target) (aggr tick : ℕ) (regions : RegionList) (notes : List Note) (o : Option Scheme) → scheme_of notes slot ≡ o → serve_slot slot space aggr tick regions notes ≡ option_map_or (serve_scheme slot space aggr tick regions notes) o (nothing_served regions notes)

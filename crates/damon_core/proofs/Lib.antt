@@ -2,6 +2,7 @@ mod Opening
 mod SlotNotes
 mod SlotFacts
 mod Setting
+mod ServeParts
 mod Serving
 mod Walks
 mod Served

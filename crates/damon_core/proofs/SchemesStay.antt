@@ -14,9 +14,10 @@ use Rattle.damon_core.specs.After.{after, by_clear, by_load, by_observe}
 use Rattle.damon_core.specs.Aggregate.{merged_regions}
 use Rattle.damon_core.specs.Event.{Event, touch, prepare, clear, load, observe, aggregate, commit, show}
 use Rattle.damon_core.specs.Note.{Note, turned}
-use Rattle.damon_core.specs.Serve.{Serving, nothing_served, run_served, serve_scheme, serve_slot, serve_slots, with_turn}
+use Rattle.damon_core.specs.Serve.{Serving, nothing_served, serve_scheme, serve_slot, serve_slots, with_turn}
 use Rattle.damon_core.specs.Slots.{charged_of, cost_of, is_active_in, scheme_of, slot_count, start_of}
 use Rattle.damon_core.specs.State.{State}
+use Rattle.damon_core.proofs.ServeParts.{run_served}
 
 -- an event that is no commit
 abbrev pub IsNoCommit : Event → Type 0

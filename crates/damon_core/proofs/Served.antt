@@ -18,9 +18,10 @@ use Rattle.damon_core.specs.State.{State}
 use Rattle.damon_core.specs.Aggregate.{merged_regions, served}
 use Rattle.damon_core.specs.Bound.{IsRunWithin}
 use Rattle.damon_core.proofs.Walks.{EachRunIsWithin}
-use Rattle.damon_core.specs.Serve.{Serving, nothing_served, run_served, serve_now, serve_scheme, serve_slot, serve_slots, with_turn}
+use Rattle.damon_core.specs.Serve.{Serving, nothing_served, serve_scheme, serve_slot, serve_slots, with_turn}
 use Rattle.damon_core.specs.Slots.{charged_of, cost_of, is_active_in, pages_in, scheme_of, slot_count, start_of}
 use Rattle.damon_core.proofs.Serving.{turn_is}
+use Rattle.damon_core.proofs.ServeParts.{run_served, serve_now}
 
 -- ---- facts of notes
 

@@ -18,9 +18,10 @@ use Rattle.scheme_engine.proofs.Lemmas.{outcome_sum, outcome_tiled}
 use Rattle.damon_core.specs.Note.{Note, turned}
 use Rattle.damon_core.specs.Aggregate.{IsServedAlike, merged_regions}
 use Rattle.damon_core.specs.State.{State}
-use Rattle.damon_core.specs.Serve.{Serving, nothing_served, run_served, serve_scheme, serve_slot, serve_slots, with_turn}
+use Rattle.damon_core.specs.Serve.{Serving, nothing_served, serve_scheme, serve_slot, serve_slots, with_turn}
 use Rattle.damon_core.specs.Slots.{charged_of, cost_of, is_active_in, scheme_of, set_scheme_of, slot_count, slot_of, start_of}
 use Rattle.damon_core.proofs.SlotNotes.{same, ran-other, ran-same, turned-other}
+use Rattle.damon_core.proofs.ServeParts.{run_served}
 
 -- the window of a slot, by the notes
 abbrev pub window_of : List Note → ℕ → Window

@@ -1,23 +1,16 @@
 -- What schemes are applied to in an aggregation, slot by slot.
-use Rattle.std.specs.Prelude.{◌≡◌, ℕ, zero, suc, ◌+◌, true, false, List, [], ◌∷◌, Option, Some, None}
+use Rattle.std.specs.Prelude.{◌≡◌, ℕ, zero, suc, ◌+◌, true, false, List, [], ◌∷◌, Some, None}
 use Rattle.damon_types.specs.declared.scheme.Scheme.{Scheme}
 use Rattle.damon_types.specs.declared.space.Target.{Target}
 use Rattle.region_list.specs.Regions.{RegionList}
-use Rattle.quota_charge.specs.Quota.{left_of}
 use Rattle.scheme_engine.specs.Best.{IsBestRun}
 use Rattle.scheme_engine.specs.Outcome.{Outcome}
 use Rattle.scheme_engine.specs.Served.{choice_of, no_choice}
 use Rattle.damon_core.specs.Note.{Note}
 use Rattle.damon_core.specs.Aggregate.{merged_regions}
-use Rattle.damon_core.specs.Serve.{Serving, serve_slot, with_turn}
-use Rattle.damon_core.specs.Slots.{charged_of, cost_of, is_active_in, scheme_of, slot_count}
+use Rattle.damon_core.specs.Serve.{Serving, left_then, serve_slot}
+use Rattle.damon_core.specs.Slots.{is_active_in, scheme_of, slot_count}
 use Rattle.damon_core.specs.State.{State}
-
--- what is left of the quota of a slot's scheme at a tick, once its window may have begun anew
-abbrev pub left_then : ℕ → ℕ → List Note → Scheme → Option ℕ
-left_then slot tick notes scheme =
-    let now = with_turn slot tick scheme.quota notes in
-    left_of scheme.quota (cost_of now slot) (charged_of now slot)
 
 -- An active scheme is applied to the best choice within what is left of its quota, once its window may have begun anew.
 pub record AppliesBest (slot : ℕ) (space : List Target) (aggr tick : ℕ) (regions : RegionList) (notes : List Note) (scheme : Scheme) (y : Serving) : Type 0 where

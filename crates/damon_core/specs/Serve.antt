@@ -9,7 +9,7 @@ use Rattle.region_list.specs.Regions.{RegionList}
 use Rattle.quota_charge.specs.Quota.{has_ended, left_of}
 use Rattle.scheme_engine.specs.declared.applied.AppliedRun.{AppliedRun}
 use Rattle.scheme_engine.specs.declared.applied.SlotChoice.{SlotChoice}
-use Rattle.scheme_engine.specs.Outcome.{Outcome, outcome_of}
+use Rattle.scheme_engine.specs.Outcome.{outcome_of}
 use Rattle.scheme_engine.specs.Served.{choice_of, no_choice}
 use Rattle.damon_core.specs.Note.{Note, turned, ran}
 use Rattle.damon_core.specs.Slots.{charged_of, cost_of, is_active_in, scheme_of, start_of}
@@ -30,21 +30,21 @@ abbrev pub with_turn : ℕ → ℕ → Option Quota → List Note → List Note
 with_turn slot tick quota notes =
     if option_map_or (λ q. has_ended q (start_of notes slot) tick) quota false then turned slot tick ∷ notes else notes
 
--- the scheme of a slot was run, with what was left of its quota
-abbrev pub run_served : ℕ → ℕ → Option ℕ → List Note → Outcome → Serving
-run_served slot tick left notes o =
-    record { rows = o.rows; notes = ran slot tick o.tried o.runs o.exceeds ∷ notes; runs = o.runs; choices = choice_of slot left o ∷ [] }
+-- what is left of the quota of a slot's scheme at a tick, once its window may have begun anew
+abbrev pub left_then : ℕ → ℕ → List Note → Scheme → Option ℕ
+left_then slot tick notes scheme =
+    let now = with_turn slot tick scheme.quota notes in
+    left_of scheme.quota (cost_of now slot) (charged_of now slot)
 
--- a set slot once its window may have begun anew: its scheme is run with what is left of its quota, if it is active
-abbrev pub serve_now : ℕ → List Target → ℕ → ℕ → RegionList → List Note → Scheme → Serving
-serve_now slot space aggr tick regions now scheme =
-    let left = left_of scheme.quota (cost_of now slot) (charged_of now slot) in
-    if is_active_in now slot scheme then run_served slot tick left now (outcome_of slot space aggr scheme left regions)
-    else record { rows = regions.rows; notes = now; runs = []; choices = no_choice slot ∷ [] }
-
--- a set slot is served: its window may begin anew, and then its scheme may be run
+-- A set slot is served: its window may begin anew, and then its scheme is run with what is left of its quota, if it is active.
 abbrev pub serve_scheme : ℕ → List Target → ℕ → ℕ → RegionList → List Note → Scheme → Serving
-serve_scheme slot space aggr tick regions notes scheme = serve_now slot space aggr tick regions (with_turn slot tick scheme.quota notes) scheme
+serve_scheme slot space aggr tick regions notes scheme =
+    let now = with_turn slot tick scheme.quota notes in
+    let left = left_then slot tick notes scheme in
+    let o = outcome_of slot space aggr scheme left regions in
+    if is_active_in now slot scheme
+    then record { rows = o.rows; notes = ran slot tick o.tried o.runs o.exceeds ∷ now; runs = o.runs; choices = choice_of slot left o ∷ [] }
+    else record { rows = regions.rows; notes = now; runs = []; choices = no_choice slot ∷ [] }
 
 -- a slot is served if it is set
 abbrev pub serve_slot : ℕ → List Target → ℕ → ℕ → RegionList → List Note → Serving

@@ -16,7 +16,7 @@ use Rattle.scheme_engine.specs.Outcome.{outcome_of}
 use Rattle.scheme_engine.specs.Served.{no_choice}
 use Rattle.damon_core.specs.Aggregate.{aggregated, merged_regions}
 use Rattle.damon_core.specs.Note.{Note, touched, cleared, checked, finished, voided, set as set_note, dropped, metric, turned, ran, cost}
-use Rattle.damon_core.specs.Serve.{Serving, nothing_served, run_served, serve_scheme, serve_slot, serve_slots, with_turn}
+use Rattle.damon_core.specs.Serve.{Serving, nothing_served, serve_scheme, serve_slot, serve_slots, with_turn}
 use Rattle.damon_core.specs.Slots.{charged_of, cost_of, is_active_in, scheme_of, slot_count, start_of}
 use Rattle.damon_core.specs.State.{State}
 use Rattle.page_bits.proofs.Lemmas.{count_adds, count_none, count_run_le}
@@ -29,6 +29,7 @@ use Rattle.reclaim_module.specs.Stands.{TouchesWithin, action_in, after_applied}
 use Rattle.reclaim_module.proofs.Counting.{count_all, count_evens}
 use Rattle.reclaim_module.proofs.Moving.{count_le, one_counts, one_page}
 use Rattle.reclaim_module.proofs.Standing.{touched_other, touched_same}
+use Rattle.damon_core.proofs.Lemmas.{run_served}
 
 -- all pages are out or resident
 pub others_are_resident : (pages : ℕ) (notes : List Note) → count_pages pages (is_out notes) + count_pages pages (λ p. not (is_out notes p)) ≡ pages

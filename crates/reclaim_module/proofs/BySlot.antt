@@ -17,10 +17,10 @@ use Rattle.scheme_engine.specs.Outcome.{chosen_of, outcome_of}
 use Rattle.scheme_engine.specs.Served.{no_choice}
 use Rattle.damon_core.specs.Aggregate.{aggregated, merged_regions, served}
 use Rattle.damon_core.specs.Note.{Note, turned, ran}
-use Rattle.damon_core.specs.Serve.{Serving, nothing_served, run_served, serve_scheme, serve_slot, serve_slots, with_turn}
+use Rattle.damon_core.specs.Serve.{Serving, nothing_served, serve_scheme, serve_slot, serve_slots, with_turn}
 use Rattle.damon_core.specs.Slots.{charged_of, cost_of, is_active_in, scheme_of, slot_count, start_of}
 use Rattle.damon_core.specs.State.{State}
-use Rattle.damon_core.proofs.Lemmas.{slots_same}
+use Rattle.damon_core.proofs.Lemmas.{slots_same, run_served}
 use Rattle.page_bits.proofs.Lemmas.{count_none, count_same}
 use Rattle.reclaim_module.specs.Counts.{pageouts_of}
 use Rattle.reclaim_module.specs.Out.{holds_pageout, holds_willneed, is_in, is_out}

@@ -22,7 +22,7 @@ use Rattle.damon_core.specs.Commit.{becomes_void, check_of, committed, if_accept
 use Rattle.damon_core.specs.Event.{Event, Fits, touch, prepare, clear, load, observe, aggregate, commit, show}
 use Rattle.damon_core.specs.Note.{Note, touched, cleared, checked, finished, voided, set as set_note, dropped, metric, turned, ran, cost}
 use Rattle.damon_core.specs.Reached.{AllFit, Reached, run}
-use Rattle.damon_core.specs.Serve.{Serving, nothing_served, run_served, serve_scheme, serve_slot, serve_slots, with_turn}
+use Rattle.damon_core.specs.Serve.{Serving, nothing_served, serve_scheme, serve_slot, serve_slots, with_turn}
 use Rattle.damon_core.specs.Slots.{charged_of, cost_of, is_active_in, scheme_of, slot_count, start_of}
 use Rattle.damon_core.specs.State.{Core, State, opening, opening_notes, row_count}
 use Rattle.page_bits.proofs.Lemmas.{count_none}
@@ -31,6 +31,7 @@ use Rattle.reclaim_module.specs.Stands.{IsTouchWithin, LeavesPages, MovesNothing
 use Rattle.reclaim_module.proofs.Balancing.{aggregated_few}
 use Rattle.reclaim_module.proofs.Serving.{opening_is_still, other_keeps}
 use Rattle.reclaim_module.proofs.Standing.{still_by, still_pageouts}
+use Rattle.damon_core.proofs.Lemmas.{run_served}
 
 -- a note that moves nothing is no touch
 no_touch : (pages : ℕ) (note : Note) → MovesNothing note → IsTouchWithin pages note
