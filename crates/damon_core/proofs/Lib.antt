@@ -1,6 +1,7 @@
 mod Opening
 mod SlotNotes
 mod SlotFacts
+mod NoteParts
 mod Setting
 mod ServeParts
 mod Serving

@@ -8,7 +8,8 @@ use Rattle.damon_types.specs.declared.scheme.Scheme.{Scheme}
 use Rattle.damon_types.specs.declared.scheme.SlotChange.{SlotChange}
 use Rattle.live_commit.specs.Setup.{SetupValue}
 use Rattle.damon_core.specs.Note.{Note, touched, cleared, checked, finished, voided, set, dropped, metric, turned, ran, cost}
-use Rattle.damon_core.specs.State.{opening_notes, set_note}
+use Rattle.damon_core.specs.State.{opening_notes}
+use Rattle.damon_core.proofs.NoteParts.{set_note}
 
 -- each note sets a slot
 abbrev SetSlots : List Note → Type 0

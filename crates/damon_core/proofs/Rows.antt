@@ -21,7 +21,7 @@ use Rattle.live_commit.specs.Commit.{CommitValue}
 use Rattle.live_commit.specs.Setup.{SetupValue}
 use Rattle.region_list.proofs.Lemmas.{length_shrunk, tiles, tiling_divided, tiling_shrunk, tiling_some}
 use Rattle.damon_core.specs.Note.{Note}
-use Rattle.damon_core.specs.State.{State, row_count, opening, opening_rows}
+use Rattle.damon_core.specs.State.{State, row_count, opening, opening_core}
 use Rattle.damon_core.specs.Event.{IsLoading, load_index}
 use Rattle.damon_core.specs.After.{counted_from, phase_cleared, phase_after_pass}
 use Rattle.damon_core.specs.Reached.{CanOpen}
@@ -78,7 +78,7 @@ rows_open v can =
     let parts = divided v.unit v.attrs.min v.ranges in
     let divides : Tiling v.unit v.ranges (spans parts) = tiling_divided v.unit v.attrs.min v.ranges can.sound.unit_some wide in
     let pages : Tiling 1 v.ranges (spans parts) = tiling_of_pages v.unit v.ranges (spans parts) can.sound.unit_some divides in
-    let rows = opening_rows v in
+    let rows = (opening_core v).regions.rows in
     let tiling : Tiling v.unit v.ranges (spans rows) = tiling_shrunk v.unit v.attrs.max v.ranges parts can.order pages can.sound.ranges_most divides in
     let some : 0 < length (spans rows) = tiling_some v.unit v.ranges (spans rows) can.sound.unit_some can.sound.ranges_some wide tiling in
     record {

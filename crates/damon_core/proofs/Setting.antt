@@ -11,10 +11,10 @@ use Rattle.scheme_engine.specs.declared.slot.TheConstants.{SLOTS}
 use Rattle.scheme_engine.specs.Slots.{SlotValue, changed, empty_slot}
 use Rattle.damon_core.specs.Note.{Note, set}
 use Rattle.damon_core.specs.Slots.{slots_of}
-use Rattle.damon_core.specs.State.{set_note}
 use Rattle.damon_core.specs.Kept.{IsUnused}
 use Rattle.damon_core.proofs.SlotFacts.{all_changed, all_replicate, one_of_all, unused_changed, unused_empty}
 use Rattle.damon_core.proofs.SlotNotes.{slot_counted_below, slots_of-none, slots_of-set}
+use Rattle.damon_core.proofs.NoteParts.{set_note}
 
 -- The slots are those that some notes tell of; the notes of the changes that are left, in front of these, are those of all changes.
 pub record AreSetSoFar (changes : List SlotChange) (i : ℕ) (slots : List SlotValue) : Type 0 where

@@ -1,10 +1,8 @@
 -- The state of a monitor, as the definitions see it.
-use Rattle.std.specs.Prelude.{ℕ, List, [], length, reverse, filter_map, Option}
+use Rattle.std.specs.Prelude.{ℕ, List, [], length, reverse, filter_map}
 use Rattle.std.specs.Option.{option_map}
 use Rattle.damon_types.specs.declared.space.Target.{Target}
 use Rattle.damon_types.specs.declared.attrs.Attrs.{Attrs}
-use Rattle.damon_types.specs.declared.row.Row.{Row}
-use Rattle.damon_types.specs.declared.scheme.SlotChange.{SlotChange}
 use Rattle.damon_types.specs.declared.scheme.Version.{Version}
 use Rattle.region_list.specs.Regions.{RegionList}
 use Rattle.region_list.specs.Division.{divided}
@@ -39,17 +37,14 @@ pub record State : Type 0 where
 abbrev pub row_count : Core → ℕ
 row_count c = length c.regions.rows
 
--- the rows before the first event: the division of the ranges, adjacent rows joined until there are at most `max`
-abbrev pub opening_rows : SetupValue → List Row
-opening_rows v = shrunk v.ranges v.attrs.max (divided v.unit v.attrs.min v.ranges)
-
--- what a monitor shows before the first event
+-- What a monitor shows before the first event. Its rows are the division of the ranges, adjacent rows joined until there are at
+-- most `max`.
 abbrev pub opening_core : SetupValue → Core
 opening_core v = record {
   version = v.version;
   space = v.space;
   attrs = v.attrs;
-  regions = record { ranges = v.ranges; rows = opening_rows v; unit = v.unit; cap = v.cap; max = v.attrs.max };
+  regions = record { ranges = v.ranges; rows = shrunk v.ranges v.attrs.max (divided v.unit v.attrs.min v.ranges); unit = v.unit; cap = v.cap; max = v.attrs.max };
   phase = Idle;
   picks = [];
   ticks = 0;
@@ -58,13 +53,9 @@ opening_core v = record {
   report = record { tick = 0; threshold = 0; rows = []; runs = []; choices = [] };
 }
 
--- the note that a change sets its slot, where the change has a scheme
-abbrev pub set_note : SlotChange → Option Note
-set_note change = option_map (set change.slot) change.scheme
-
 -- the notes before the first event: each slot of the setup is set, in order
 abbrev pub opening_notes : SetupValue → List Note
-opening_notes v = reverse (filter_map set_note v.slots)
+opening_notes v = reverse (filter_map (λ change. option_map (set change.slot) change.scheme) v.slots)
 
 -- the state before the first event
 abbrev pub opening : SetupValue → State

@@ -7,7 +7,7 @@ ghost use Rattle.live_commit.specs.SetupView.{value_of};
 ghost use Rattle.damon_core.specs.Kept.{IsUnused};
 ghost use Rattle.damon_core.specs.Reached.{ReachedByHit};
 ghost use Rattle.damon_core.specs.Slots.{slots_of};
-ghost use Rattle.damon_core.specs.State.{opening, opening_core, opening_notes, opening_rows};
+ghost use Rattle.damon_core.specs.State.{opening, opening_core, opening_notes};
 
 use live_commit::Setup;
 use region_list::{Regions, RowBuf, divide, shrink_rows};
@@ -48,7 +48,7 @@ pub(crate) fn first_regions(alloc: Global, setup: &Setup) -> Result<Regions, All
 // The rows of a monitor before its first pass.
 #[tactic(auto, using(crate::proofs::RowFacts::tiling_of_pages))]
 fn first_rows(alloc: Global, setup: &Setup) -> Result<RowBuf, AllocError>
-    ensures rows { IfOk result (λ b. b.rows ≡ opening_rows (value_of setup.now)) }
+    ensures rows { IfOk result (λ b. b.rows ≡ (opening_core (value_of setup.now)).regions.rows) }
     ensures tiling { IfOk result (λ b. Tiling setup.now.unit setup.now.ranges.list (spans b.rows)) }
     ensures few { IfOk result (λ b. length b.rows ≤ setup.now.attrs.max) }
 {

@@ -34,8 +34,8 @@ use Rattle.damon_core.specs.Event.{Event, Fits, touch, prepare, clear, load, obs
 use Rattle.damon_core.specs.Note.{Note, cleared, checked, finished, voided, set as set_note, dropped, metric, turned, ran, cost}
 use Rattle.damon_core.specs.Serve.{Serving, nothing_served, serve_scheme, serve_slot, serve_slots, with_turn}
 use Rattle.damon_core.specs.Slots.{charged_of, cost_of, is_active_in, scheme_of, slot_count, start_of}
-use Rattle.damon_core.specs.State.{State, opening_notes, set_note as note_of_change}
-use Rattle.damon_core.proofs.Lemmas.{slot_same, turn_same, run_served}
+use Rattle.damon_core.specs.State.{State, opening_notes}
+use Rattle.damon_core.proofs.Lemmas.{slot_same, turn_same, run_served, set_note as note_of_change}
 use Rattle.reclaim_module.specs.Calls.{after_action}
 use Rattle.reclaim_module.specs.Pages.{ReclaimView}
 use Rattle.reclaim_module.specs.Stands.{LeavesPages, MovesNothing, ReclaimStands, action_in, after_applied, after_event, after_runs}

@@ -31,8 +31,8 @@ use Rattle.damon_core.specs.Event.{Event, touch, prepare, clear, load, observe, 
 use Rattle.damon_core.specs.Note.{Note, set}
 use Rattle.damon_core.specs.Reached.{Reached, run}
 use Rattle.damon_core.specs.Slots.{scheme_of}
-use Rattle.damon_core.specs.State.{Core, State, opening, row_count, set_note}
-use Rattle.damon_core.proofs.Lemmas.{few_after, scheme_stays}
+use Rattle.damon_core.specs.State.{Core, State, opening, row_count}
+use Rattle.damon_core.proofs.Lemmas.{few_after, scheme_stays, set_note}
 use Rattle.quota_goal.specs.Tuned.{with_bytes}
 use Rattle.tune_run.specs.Callbacks.{change_alone}
 

@@ -9,13 +9,14 @@ use Rattle.damon_types.specs.declared.scheme.SlotChange.{SlotChange}
 use Rattle.damon_types.specs.declared.scheme.TheConstants.{MAX_SLOT}
 use Rattle.damon_core.specs.Note.{Note, set}
 use Rattle.damon_core.specs.Slots.{slot_count}
-use Rattle.damon_core.specs.State.{opening, opening_notes, set_note}
+use Rattle.damon_core.specs.State.{opening, opening_notes}
 use Rattle.live_commit.specs.Setup.{IsSetup, SetupValue}
 use Rattle.quota_goal.specs.declared.goals.Goal.{Goal}
 use Rattle.quota_goal.specs.Tuned.{TunerView, all_given, given, top_after, untuned}
 use Rattle.tune_run.specs.Callbacks.{tuner_in}
 use Rattle.tune_run.specs.Tops.{tops_of}
 use Rattle.tune_run.proofs.Slots.{counted_below, schemes_of, schemes_set, tops_set}
+use Rattle.damon_core.proofs.Lemmas.{set_note}
 
 -- the tuner of notes that only a setup made
 abbrev tuner_of : List Goal → List Note → TunerView

@@ -11,7 +11,7 @@ use Rattle.region_list.specs.Tiling.{Tiling}
 use Rattle.region_list.specs.Division.{divided}
 use Rattle.live_commit.specs.SetupView.{value_of}
 use Rattle.region_list.proofs.Lemmas.{counts_shrunk, tiling_some}
-use Rattle.damon_core.specs.State.{Core, opening, opening_core, opening_rows}
+use Rattle.damon_core.specs.State.{Core, opening, opening_core}
 use Rattle.damon_core.specs.Kept.{IsMonitor, RowsLieIn, SamplingView}
 use Rattle.damon_core.specs.declared.report.Report.{Report}
 use Rattle.damon_core.specs.Report.{ReportValue, report_value}
@@ -34,9 +34,9 @@ new-requires c =
     let made : c.in_ok-regions.regions ≡ (opening_core v).regions = c.in_ok-regions.ensures in
     let tiling = subst (λ (x : RegionList). Tiling x.unit x.ranges (spans x.rows)) made c.len-rows.ensures.tiling in
     let wide = recursion_from_All (λ (g : Range). v.unit ≤ g.pages) v.ranges sound.wide in
-    let some = tiling_some v.unit v.ranges (spans (opening_rows v)) sound.unit_some sound.ranges_some wide tiling in
+    let some = tiling_some v.unit v.ranges (spans ((opening_core v).regions.rows)) sound.unit_some sound.ranges_some wide tiling in
     record {
-      some = subst (λ (x : RegionList). 0 < length x.rows) (sym made) (omega (arith, some, length-map (opening_rows v) span_of));
+      some = subst (λ (x : RegionList). 0 < length x.rows) (sym made) (omega (arith, some, length-map ((opening_core v).regions.rows) span_of));
       cap = omega (arith, ap (λ (x : RegionList). x.cap) made, sound.cap_most);
     }
 
