@@ -16,7 +16,7 @@ use Rattle.live_commit.proofs.Lemmas.{commit_accepted}
 use Rattle.damon_core.specs.Note.{Note, was_hit, set, dropped}
 use Rattle.damon_core.specs.Totals.{checks_made, hits_made}
 use Rattle.damon_core.specs.State.{Core, State}
-use Rattle.damon_core.specs.Commit.{check_of, committed, committed_core, committed_notes, committed_slots, core_after_commit, if_accepted, phase_after_commit, slots_after_commit, slots_changed, slots_costed, slots_metered, view_of, with_cost, with_metric, with_slot}
+use Rattle.damon_core.specs.Commit.{check_of, committed, committed_core, committed_notes, committed_slots, core_after_commit, if_accepted, phase_after_commit, slots_after_commit, slots_changed, slots_costed, slots_metered, view_of}
 use Rattle.damon_core.specs.Event.{commit}
 use Rattle.damon_core.specs.Slots.{slot_count, slots_of}
 use Rattle.damon_core.specs.Makes.{Makes}
@@ -25,6 +25,7 @@ use Rattle.damon_core.proofs.Committing.{allows_commit, by_phase_after, committe
 use Rattle.damon_core.proofs.Shown.{after_asked}
 use Rattle.damon_core.proofs.SlotNotes.{slot_counted_below, slots_of-cost, slots_of-dropped, slots_of-metric, slots_of-set}
 use Rattle.damon_core.proofs.Tallying.{was_hit-commit}
+use Rattle.damon_core.proofs.NoteParts.{with_cost, with_metric, with_slot}
 
 checks_made-commit : (c : CommitValue) (notes : List Note) → checks_made (committed_notes c notes) ≡ checks_made notes
 checks_made-commit c notes = committed_notes_hold (λ ns. checks_made ns ≡ checks_made notes) (λ slot scheme ns same. same) (λ slot ns same. same) (λ value ns same. same) (λ slot nanos ns same. same) c notes refl

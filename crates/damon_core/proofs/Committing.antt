@@ -40,8 +40,9 @@ use Rattle.damon_core.specs.Note.{Note, set, dropped, metric, cost}
 use Rattle.damon_core.specs.State.{Core}
 use Rattle.damon_core.specs.Kept.{CanCommit, CountsHits, HasPicks, IsSampling, SinceFew, loaded_so_far}
 use Rattle.damon_core.specs.Pass.{IsPickWithin}
-use Rattle.damon_core.specs.Commit.{check_of, view_of, committed_notes, phase_after_commit, regions_after, with_cost, with_metric, with_slot}
+use Rattle.damon_core.specs.Commit.{check_of, view_of, committed_notes, phase_after_commit, regions_after}
 use Rattle.damon_core.proofs.RowFacts.{tiling_of_pages}
+use Rattle.damon_core.proofs.NoteParts.{with_cost, with_metric, with_slot}
 
 -- a fact of the notes before a commit that the notes of a commit keep
 pub committed_notes_hold : (P : List Note → Type 0)

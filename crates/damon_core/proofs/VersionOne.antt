@@ -24,12 +24,12 @@ use Rattle.live_commit.specs.Setup.{SetupValue}
 use Rattle.live_commit.specs.Slots.{checked_after, checked_set, checked_slot, checked_slots, is_set}
 use Rattle.damon_core.specs.Note.{Note, set, dropped}
 use Rattle.damon_core.specs.State.{Core, State, opening_notes}
-use Rattle.damon_core.specs.Commit.{check_of, committed_notes, view_of, with_cost, with_metric, with_slot}
+use Rattle.damon_core.specs.Commit.{check_of, committed_notes, view_of}
 use Rattle.damon_core.specs.Reached.{Reached}
 use Rattle.damon_core.specs.VersionOne.{AreOfVersionOne, IsOfVersionOne}
 use Rattle.damon_core.proofs.Keeping.{Keeps, any_result, reached_keeps}
 use Rattle.damon_core.proofs.Served.{notes_hold}
-use Rattle.damon_core.proofs.NoteParts.{set_note}
+use Rattle.damon_core.proofs.NoteParts.{set_note, with_cost, with_metric, with_slot}
 
 -- ---- the quota of a scheme that is accepted
 

@@ -64,24 +64,12 @@ committed_core parts c =
     let regions = regions_after c.space parts.ranges attrs.max c.regions in
     record c { attrs = attrs; regions = regions; phase = phase_after_commit c.phase c.regions.rows regions.rows }
 
--- notes with that of a slot change: its slot is set, or dropped where the change has no scheme
-abbrev pub with_slot : Option SlotChange → List Note → List Note
-with_slot None notes = notes
-with_slot (Some change) notes = option_map_or (set change.slot) change.scheme (dropped change.slot) ∷ notes
-
--- notes with that of a metric
-abbrev pub with_metric : Option ℕ → List Note → List Note
-with_metric None notes = notes
-with_metric (Some value) notes = metric value ∷ notes
-
--- notes with that of a cost
-abbrev pub with_cost : Option CostPart → List Note → List Note
-with_cost None notes = notes
-with_cost (Some part) notes = cost part.slot part.nanos ∷ notes
-
 -- the notes after a commit that is accepted: first the slot change, then the metric, then the cost
 abbrev pub committed_notes : CommitValue → List Note → List Note
-committed_notes parts notes = with_cost parts.cost (with_metric parts.metric (with_slot parts.slot notes))
+committed_notes parts notes =
+    let slot_set = option_map_or (λ change. option_map_or (set change.slot) change.scheme (dropped change.slot) ∷ notes) parts.slot notes in
+    let measured = option_map_or (λ value. metric value ∷ slot_set) parts.metric slot_set in
+    option_map_or (λ part. cost part.slot part.nanos ∷ measured) parts.cost measured
 
 -- the state after a commit that is accepted
 abbrev pub committed : CommitValue → State → State

@@ -8,10 +8,11 @@ use Rattle.damon_types.specs.declared.scheme.SlotChange.{SlotChange}
 use Rattle.live_commit.specs.declared.fault.CommitFault.{CommitFault}
 use Rattle.live_commit.specs.Commit.{CommitValue}
 use Rattle.damon_core.specs.Note.{Note, word_of, set, dropped}
-use Rattle.damon_core.specs.Commit.{check_of, committed, if_accepted, with_cost, with_metric, with_slot}
+use Rattle.damon_core.specs.Commit.{check_of, committed, if_accepted}
 use Rattle.damon_core.specs.Event.{commit}
 use Rattle.damon_core.specs.After.{after}
 use Rattle.damon_core.specs.State.{State}
+use Rattle.damon_core.proofs.Lemmas.{with_cost, with_metric, with_slot}
 
 word_of-note : (slot : ℕ) (scheme : Option Scheme) (notes : List Note) (p : ℕ) → word_of (option_map_or (set slot) scheme (dropped slot) ∷ notes) p ≡ word_of notes p
 word_of-note slot None notes p = refl

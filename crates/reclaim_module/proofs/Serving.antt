@@ -29,13 +29,13 @@ use Rattle.scheme_engine.specs.Served.{no_choice}
 use Rattle.scheme_engine.specs.Taken.{applied_run, applied_runs, candidate_runs, span_at, taken_runs}
 use Rattle.damon_core.specs.After.{after, by_clear, by_load, by_observe}
 use Rattle.damon_core.specs.Aggregate.{aggregated, merged_regions, served}
-use Rattle.damon_core.specs.Commit.{check_of, committed, if_accepted, with_cost, with_metric, with_slot}
+use Rattle.damon_core.specs.Commit.{check_of, committed, if_accepted}
 use Rattle.damon_core.specs.Event.{Event, Fits, touch, prepare, clear, load, observe, aggregate, commit, show}
 use Rattle.damon_core.specs.Note.{Note, cleared, checked, finished, voided, set as set_note, dropped, metric, turned, ran, cost}
 use Rattle.damon_core.specs.Serve.{Serving, nothing_served, serve_scheme, serve_slot, serve_slots, with_turn}
 use Rattle.damon_core.specs.Slots.{charged_of, cost_of, is_active_in, scheme_of, slot_count, start_of}
 use Rattle.damon_core.specs.State.{State, opening_notes}
-use Rattle.damon_core.proofs.Lemmas.{slot_same, turn_same, run_served, set_note as note_of_change}
+use Rattle.damon_core.proofs.Lemmas.{slot_same, turn_same, run_served, set_note as note_of_change, with_cost, with_metric, with_slot}
 use Rattle.reclaim_module.specs.Calls.{after_action}
 use Rattle.reclaim_module.specs.Pages.{ReclaimView}
 use Rattle.reclaim_module.specs.Stands.{LeavesPages, MovesNothing, ReclaimStands, action_in, after_applied, after_event, after_runs}

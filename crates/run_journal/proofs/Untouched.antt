@@ -23,13 +23,13 @@ use Rattle.damon_core.specs.Note.{Note, touched, cleared, checked, finished, voi
 use Rattle.damon_core.specs.Slots.{charged_of, cost_of, is_active_in, metrics_of, nanos_measured, pages_in, pages_of_runs, scheme_of, slot_count, start_of}
 use Rattle.damon_core.specs.Serve.{Serving, nothing_served, serve_scheme, serve_slot, serve_slots, with_turn}
 use Rattle.damon_core.specs.Aggregate.{aggregated, aggregated_core, merged_regions}
-use Rattle.damon_core.specs.Commit.{check_of, committed, committed_core, committed_notes, if_accepted, with_cost, with_metric, with_slot}
+use Rattle.damon_core.specs.Commit.{check_of, committed, committed_core, committed_notes, if_accepted}
 use Rattle.damon_core.specs.State.{State}
 use Rattle.damon_core.specs.After.{after, by_clear, by_load, by_observe, counted_from, finished_pass, passed_core}
 use Rattle.damon_core.specs.Event.{Event, touch, prepare, clear, load, observe, aggregate, commit, show, Fits}
 use Rattle.damon_core.specs.Reached.{AllFit, run}
 use Rattle.run_journal.specs.Woven.{is_no_touch, untouched}
-use Rattle.damon_core.proofs.Lemmas.{run_served, serve_now}
+use Rattle.damon_core.proofs.Lemmas.{run_served, serve_now, with_cost, with_metric, with_slot}
 
 -- ---- what notes tell
 

@@ -20,12 +20,12 @@ use Rattle.live_commit.specs.Setup.{SetupValue}
 use Rattle.page_words.specs.declared.view.Entry.TheVariants.{Load}
 use Rattle.damon_core.specs.Bound.{Bound}
 use Rattle.damon_core.specs.Note.{Note, set, dropped}
-use Rattle.damon_core.specs.Commit.{becomes_void, check_of, committed, committed_core, if_accepted, with_cost, with_metric, with_slot}
+use Rattle.damon_core.specs.Commit.{becomes_void, check_of, committed, committed_core, if_accepted}
 use Rattle.damon_core.specs.State.{Core, State, opening, row_count}
 use Rattle.damon_core.specs.After.{after, phase_after_pass}
 use Rattle.damon_core.specs.Event.{prepare, load, observe}
 use Rattle.damon_core.specs.InPhase.{IsInPhase}
-use Rattle.damon_core.proofs.Lemmas.{AllByHit-append, AllFit-append, run-append, set_note}
+use Rattle.damon_core.proofs.Lemmas.{AllByHit-append, AllFit-append, run-append, set_note, with_cost, with_metric, with_slot}
 use Rattle.damon_core.specs.Pass.{IsInPass, PagesRiseFrom}
 use Rattle.damon_core.specs.Several.{clears}
 use Rattle.damon_core.specs.Reached.{AllByHit, AllFit, Reached, ReachedByHit, run}

@@ -26,13 +26,13 @@ use Rattle.live_commit.specs.Commit.{CommitValue}
 use Rattle.live_commit.specs.Setup.{IsSetup, SetupValue}
 use Rattle.live_commit.specs.Slots.{checked_after, checked_set, checked_slot, is_set}
 use Rattle.damon_core.specs.After.{after, by_clear, by_load, by_observe}
-use Rattle.damon_core.specs.Commit.{becomes_void, check_of, committed, committed_core, if_accepted, phase_after_commit, view_of, with_cost, with_metric, with_slot}
+use Rattle.damon_core.specs.Commit.{becomes_void, check_of, committed, committed_core, if_accepted, phase_after_commit, view_of}
 use Rattle.damon_core.specs.Event.{Event, touch, prepare, clear, load, observe, aggregate, commit, show}
 use Rattle.damon_core.specs.Note.{Note, set}
 use Rattle.damon_core.specs.Reached.{Reached, run}
 use Rattle.damon_core.specs.Slots.{scheme_of}
 use Rattle.damon_core.specs.State.{Core, State, opening, row_count}
-use Rattle.damon_core.proofs.Lemmas.{few_after, scheme_stays, set_note}
+use Rattle.damon_core.proofs.Lemmas.{few_after, scheme_stays, set_note, with_cost, with_metric, with_slot}
 use Rattle.quota_goal.specs.Tuned.{with_bytes}
 use Rattle.tune_run.specs.Callbacks.{change_alone}
 

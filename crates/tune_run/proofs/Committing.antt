@@ -11,7 +11,7 @@ use Rattle.live_commit.specs.declared.fault.CommitFault.{CommitFault}
 use Rattle.live_commit.specs.Accepted.{AllowsCommit}
 use Rattle.live_commit.specs.Commit.{CommitValue}
 use Rattle.damon_core.specs.After.{after}
-use Rattle.damon_core.specs.Commit.{changed_by, check_of, commit_answer, committed, committed_notes, if_accepted, with_cost, with_metric, with_slot}
+use Rattle.damon_core.specs.Commit.{changed_by, check_of, commit_answer, committed, committed_notes, if_accepted}
 use Rattle.damon_core.specs.Event.{commit}
 use Rattle.damon_core.specs.Note.{Note}
 use Rattle.damon_core.specs.Slots.{scheme_of, slot_count}
@@ -28,6 +28,7 @@ use Rattle.tune_run.specs.Tops.{tops_after, tops_kept}
 use Rattle.tune_run.proofs.Accepting.{TakesChanges, free_again, tuned_is_accepted}
 use Rattle.tune_run.proofs.Changes.{from_the_first, retuned_is}
 use Rattle.tune_run.proofs.Slots.{counted_below, map_alike, scheme_is, schemes_dropped, schemes_of, schemes_set}
+use Rattle.damon_core.proofs.Lemmas.{with_cost, with_metric, with_slot}
 
 cost_same : (part : Option CostPart) (notes : List Note) (i : ℕ) → scheme_of (with_cost part notes) i ≡ scheme_of notes i
 cost_same None notes i = refl
