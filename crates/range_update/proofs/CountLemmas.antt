@@ -5,7 +5,8 @@ use Rattle.damon_types.specs.declared.range.Range.{Range}
 use Rattle.damon_types.specs.declared.row.Row.{Row}
 use Rattle.damon_types.specs.Ranges.{end_of}
 use Rattle.damon_types.proofs.Lemmas.{all_append}
-use Rattle.range_update.specs.Updated.{covering_row, covers, piece_of, piece, boundaries, kept, pieces, range_pieces, all_pieces}
+use Rattle.range_update.specs.Updated.{covering_row, piece_of, piece, boundaries, kept, pieces, range_pieces, all_pieces}
+use Rattle.range_update.proofs.PieceLemmas.{covers}
 
 -- the count of a row is at most n
 abbrev pub IsFew : ℕ → Row → Type 0

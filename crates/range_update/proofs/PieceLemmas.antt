@@ -1,6 +1,6 @@
 -- The values and the boundaries of pieces, from the old rows.
 use Rattle.std.proofs.Common.{◌≡◌, ◌⊎◌, inl, inr, ℕ, zero, suc, ◌+◌, ◌-◌, ◌≤◌, ◌<◌, Bool, true, false, List, [], ◌∷◌, ◌++◌, length, length-append, take, drop, refl, sym, ap, ◌∙◌, Option, Some, None, arith}
-use Rattle.std.specs.Prelude.{if◌then◌else◌}
+use Rattle.std.specs.Prelude.{◌&&◌, nat_le, nat_lt, if◌then◌else◌}
 use Rattle.std.proofs.lemmas.Bool.{cases_lt}
 use Rattle.std.proofs.Math.Seq.{take-suc}
 use Rattle.std.proofs.lemmas.List.{drop_all, get_or-drop, length-drop}
@@ -8,9 +8,13 @@ use Rattle.std.proofs.lemmas.Bool.Decides.{nat_tests}
 use Rattle.damon_types.specs.declared.row.Row.{Row}
 use Rattle.region_list.specs.Rows.{no_row, row_at, RowList}
 use Rattle.range_update.specs.Order.{row_end, RowsInOrder, EndBy}
-use Rattle.range_update.specs.Updated.{covers, covering_row, piece_of, piece, boundaries, may_keep, kept, pieces}
+use Rattle.range_update.specs.Updated.{covering_row, piece_of, piece, boundaries, may_keep, kept, pieces}
 use Rattle.range_update.specs.OpenPiece.{with_end, IsOpenPiece, pieces_from}
 use Rattle.range_update.proofs.OrderLemmas.{drop_row, order_at, order_after, past_start}
+
+-- whether a row covers a page
+abbrev pub covers : ℕ → Row → Bool
+covers page r = nat_le r.start page && nat_lt page (row_end r)
 
 -- rows that end by a page do not cover it
 pub covering_skip : (p : ℕ) (rows : List Row) (i : ℕ) → EndBy p rows i → covering_row rows p ≡ covering_row (drop i rows) p

@@ -1,5 +1,5 @@
 -- The rows of new ranges.
-use Rattle.std.specs.Prelude.{ℕ, ◌+◌, ◌-◌, Bool, ◌&&◌, nat_le, nat_lt, List, [], ◌∷◌, Option, Some, None, if◌then◌else◌}
+use Rattle.std.specs.Prelude.{ℕ, ◌+◌, ◌-◌, Bool, ◌&&◌, nat_le, nat_lt, List, [], ◌∷◌, find, Option, Some, None, if◌then◌else◌}
 use Rattle.std.specs.List.{flat_map}
 use Rattle.damon_types.specs.declared.range.Range.{Range}
 use Rattle.damon_types.specs.declared.row.Row.{Row}
@@ -8,14 +8,9 @@ use Rattle.region_list.specs.Division.{fresh}
 use Rattle.region_list.specs.Shrink.{shrunk}
 use Rattle.range_update.specs.Order.{row_end}
 
--- whether a row covers a page
-abbrev pub covers : ℕ → Row → Bool
-covers page r = nat_le r.start page && nat_lt page (row_end r)
-
 -- the row that covers a page, if any
 abbrev pub covering_row : List Row → ℕ → Option Row
-covering_row [] page = None
-covering_row (r ∷ rows) page = if covers page r then Some r else covering_row rows page
+covering_row rows page = find (λ r. nat_le r.start page && nat_lt page (row_end r)) rows
 
 -- a row of target t with the pages from `from` to before `to`, and the values of another row, or zeros
 abbrev pub piece_of : Option Row → ℕ → ℕ → ℕ → Row
@@ -28,8 +23,7 @@ piece rows t from to = piece_of (covering_row rows from) t from to
 
 -- where old rows start and end
 abbrev pub boundaries : List Row → List ℕ
-boundaries [] = []
-boundaries (r ∷ rows) = r.start ∷ row_end r ∷ boundaries rows
+boundaries rows = flat_map (λ r. r.start ∷ row_end r ∷ []) rows
 
 -- whether a boundary x is at least `unit` pages after the boundary kept last, and at least `unit` pages before the end of the range
 abbrev pub may_keep : ℕ → ℕ → ℕ → ℕ → Bool
