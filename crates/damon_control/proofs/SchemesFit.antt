@@ -15,7 +15,7 @@ use Rattle.damon_types.specs.Scheme.{checked_time}
 use Rattle.script_lines.specs.declared.kind.ScriptKind.TheVariants.{Limit}
 use Rattle.script_lines.specs.declared.keys.Setting.{Setting}
 use Rattle.script_lines.specs.declared.keys.Setting.TheVariants.{Size, Count, Age, Quota as QuotaOf, Time, Weights, Prefer, Marks, Filter as FilterOf}
-use Rattle.script_lines.specs.Fits.{FitsChange, FitsKind, FitsQuota, FitsScheme, FitsSetting}
+use Rattle.script_lines.specs.Fits.{FitsChange, FitsKind, FitsScheme, FitsSetting}
 use Rattle.script_lines.specs.Laws.{EmptiesSlot, GivesScheme, IsScheme}
 use Rattle.script_lines.specs.Settings.{AreAfter, default_scheme, settled, with_setting}
 use Rattle.damon_control.proofs.Steps.{bind-Ok, only_if-Ok}
@@ -42,6 +42,10 @@ no_time-fits (Some t) none = absurd cc
 -- a quota, if there is one, with this time
 abbrev with_time : Option Quota → ℕ → Option Quota
 with_time quota time = option_map (λ (q : Quota). record q { time = Some time }) quota
+
+-- bytes of 64 bits, a reset interval of 32, and a time of 64, if there is one
+abbrev FitsQuota : Quota → Type 0
+FitsQuota q = (q.bytes < 2 ^ 64) × (q.reset < 2 ^ 32) × IfSome q.time (λ time. time < 2 ^ 64)
 
 with_time-fits : (q : Option Quota) (time : ℕ) → IfSome q FitsQuota → time < 2 ^ 64 → IfSome (with_time q time) FitsQuota
 with_time-fits None time fits below = tt

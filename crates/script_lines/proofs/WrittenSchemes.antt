@@ -21,7 +21,7 @@ use Rattle.script_lines.specs.declared.keys.Key.{Key}
 use Rattle.script_lines.specs.declared.keys.Key.TheVariants.{Filter as FilterKey, Quota as QuotaKey, Time as TimeKey}
 use Rattle.script_lines.specs.declared.keys.Setting.{Setting}
 use Rattle.script_lines.specs.declared.keys.Setting.TheVariants.{Size as SizeOf, Count as CountOf, Age as AgeOf, Quota as QuotaOf, Time as TimeOf, Weights as WeightsOf, Prefer as PreferOf, Marks as MarksOf, Filter as FilterOf}
-use Rattle.script_lines.specs.Fits.{FitsKind, FitsQuota, FitsSetting, FitsChange, FitsScheme}
+use Rattle.script_lines.specs.Fits.{FitsKind, FitsSetting, FitsChange, FitsScheme}
 use Rattle.script_lines.specs.Laws.{EmptiesSlot, GivesScheme}
 use Rattle.script_lines.specs.Settings.{AreAfter, ComesLater, default_scheme, key_of, key_place, settled}
 use Rattle.script_lines.specs.WrittenLine.{are_even, change_text, is_any, marks_given, prefer_given, quota_given, settings_given, slot_line, time_given, unless}
@@ -40,7 +40,7 @@ time-fit : (time : Option ℕ) → IfSome time (λ t. t < 2 ^ 64) → AllByRecur
 time-fit None fits = tt
 time-fit (Some time) fits = (fits, tt)
 
-pub quota-fit : (quota : Option Quota) → IfSome quota FitsQuota → AllByRecursion FitsSetting (quota_given quota)
+pub quota-fit : (quota : Option Quota) → IfSome quota (λ q. (q.bytes < 2 ^ 64) × (q.reset < 2 ^ 32) × IfSome q.time (λ time. time < 2 ^ 64)) → AllByRecursion FitsSetting (quota_given quota)
 quota-fit None fits = tt
 quota-fit (Some quota) fits = ((fits.0, fits.1, refl), time-fit quota.time fits.2)
 

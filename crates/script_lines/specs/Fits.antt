@@ -6,7 +6,6 @@ use Rattle.damon_types.specs.declared.filter.FilterKind.{FilterKind}
 use Rattle.damon_types.specs.declared.filter.FilterKind.TheVariants.{Addr, Target, Class}
 use Rattle.damon_types.specs.declared.range.RangeSpec.{RangeSpec}
 use Rattle.damon_types.specs.declared.scheme.CostPart.{CostPart}
-use Rattle.damon_types.specs.declared.scheme.Quota.{Quota}
 use Rattle.damon_types.specs.declared.scheme.Scheme.{Scheme}
 use Rattle.damon_types.specs.declared.scheme.SlotChange.{SlotChange}
 use Rattle.damon_types.specs.declared.scheme.Span.{Span}
@@ -47,16 +46,12 @@ FitsSetting (PreferOf prefer) = Unit {0}
 FitsSetting (MarksOf m) = (m.high < 2 ^ 32) × (m.mid < 2 ^ 32) × (m.low < 2 ^ 32)
 FitsSetting (FilterOf filter) = FitsKind filter.kind
 
--- bytes of 64 bits, a reset interval of 32, and a time of 64, if there is one
-abbrev pub FitsQuota : Quota → Type 0
-FitsQuota q = (q.bytes < 2 ^ 64) × (q.reset < 2 ^ 32) × IfSome q.time (λ time. time < 2 ^ 64)
-
 -- a scheme as its type has it: each number is within its field, and its filters within their list
 pub record FitsScheme (s : Scheme) : Type 0 where
   pub size : FitsSpan s.pattern.size
   pub count : FitsSpan s.pattern.count
   pub age : FitsSpan s.pattern.age
-  pub quota : IfSome s.quota FitsQuota
+  pub quota : IfSome s.quota (λ q. (q.bytes < 2 ^ 64) × (q.reset < 2 ^ 32) × IfSome q.time (λ time. time < 2 ^ 64))
   pub weights : (s.weights.size < 2 ^ 16) × (s.weights.count < 2 ^ 16) × (s.weights.age < 2 ^ 16)
   pub marks : IfSome s.marks (λ m. (m.high < 2 ^ 32) × (m.mid < 2 ^ 32) × (m.low < 2 ^ 32))
   pub filters : All (λ f. FitsKind f.kind) s.filters
