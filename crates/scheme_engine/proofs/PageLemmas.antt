@@ -1,7 +1,8 @@
 -- No other pages have a greater sum of scores than those that are taken.
 use Rattle.std.proofs.Common.{◌≡◌, inl, inr, ℕ, ◌+◌, ◌*◌, ◌≤◌, Bool, true, false, not, List, [], ◌∷◌, Option, Some, None, length, map, refl, sym, ap, ◌∙◌, subst, arith}
-use Rattle.std.specs.Prelude.{All, IfSome, filter, nat_eq, sum, sum_by, zip}
+use Rattle.std.specs.Prelude.{All, IfSome, filter, find, nat_eq, sum, sum_by, zip}
 use Rattle.std.specs.List.{AllByRecursion, AllZip, IsDistinct, list_any}
+use Rattle.std.specs.Option.{option_map_or}
 use Rattle.std.proofs.Math.Nat.{add-mul}
 use Rattle.std.proofs.lemmas.Bool.{false≢true, or_cases}
 use Rattle.std.proofs.lemmas.Bool.Decides.{nat_tests}
@@ -16,11 +17,15 @@ use Rattle.priority.specs.declared.candidates.Candidate.{Candidate}
 use Rattle.priority.specs.Best.{IsBest, IsChoice, shares_of, sum_of_scores}
 use Rattle.scheme_engine.specs.declared.applied.AppliedRun.{AppliedRun}
 use Rattle.scheme_engine.specs.Applying.{IsCandidateOf}
-use Rattle.scheme_engine.specs.Best.{ArePagesWithin, is_page_of, page_score, score_of_pages, score_of_runs}
+use Rattle.scheme_engine.specs.Best.{ArePagesWithin, is_page_of, score_of_pages, score_of_runs}
 use Rattle.scheme_engine.specs.Candidates.{passing_pages}
 use Rattle.scheme_engine.specs.Taken.{applied_run, applied_runs, candidate_runs, span_at, taken_runs}
 use Rattle.scheme_engine.proofs.PlaceLemmas.{Ascend}
 use Rattle.scheme_engine.proofs.RunLemmas.{candidate_sum, span_is}
+
+-- the score of a page: that of its candidate, 0 where it has none
+abbrev page_score : (Candidate → ℕ → Bool) → List Candidate → ℕ → ℕ
+page_score is_of cs page = option_map_or (λ c. c.score) (find (λ c. is_of c page) cs) 0
 
 -- the pages of a candidate among others, and those that are not its own
 abbrev outside : (Candidate → ℕ → Bool) → Candidate → List ℕ → List ℕ

@@ -1,6 +1,7 @@
 -- What a run of a scheme is, without the way in which it is found.
-use Rattle.std.specs.Prelude.{◌≡◌, ℕ, ◌+◌, ◌*◌, ◌≤◌, Bool, true, false, nat_eq, List, [], ◌∷◌, length, sum_by, All, Any, Option, Some, None, IfSome, IsPermutation, if◌then◌else◌}
+use Rattle.std.specs.Prelude.{◌≡◌, ℕ, ◌+◌, ◌*◌, ◌≤◌, Bool, true, false, nat_eq, List, [], ◌∷◌, length, sum_by, find, All, Any, Option, Some, None, IfSome, IsPermutation, if◌then◌else◌}
 use Rattle.std.specs.List.{IsDistinct, list_any}
+use Rattle.std.specs.Option.{option_map_or}
 use Rattle.damon_types.specs.declared.scheme.Scheme.{Scheme}
 use Rattle.damon_types.specs.declared.space.Target.{Target}
 use Rattle.damon_types.specs.Span.{Span, spans}
@@ -22,20 +23,16 @@ use Rattle.scheme_engine.specs.Taken.{applied_runs, span_at}
 abbrev pub is_page_of : (ℕ → Bool) → List Span → Candidate → ℕ → Bool
 is_page_of passes ss c page = list_any (nat_eq page) (passing_pages passes (span_at ss c))
 
--- the score of a page, where a test says whether it is one of a candidate: that of its candidate, 0 where it has none
-abbrev pub page_score : (Candidate → ℕ → Bool) → List Candidate → ℕ → ℕ
-page_score is_of [] page = 0
-page_score is_of (c ∷ cs) page = if is_of c page then c.score else page_score is_of cs page
-
 -- Pages that are all different, each of them a page of a candidate, and no more than are left of the quota.
 pub record ArePagesWithin (left : Option ℕ) (is_of : Candidate → ℕ → Bool) (cs : List Candidate) (pages : List ℕ) : Type 0 where
   pub distinct : IsDistinct nat_eq pages
   pub each : All (λ page. Any (λ c. is_of c page ≡ true) cs) pages
   pub within : IfSome left (λ most. length pages ≤ most)
 
--- the sum of the scores of pages
+-- The sum of the scores of pages, where a test says whether a page is one of a candidate: each has the score of its candidate, 0
+-- where it has none.
 abbrev pub score_of_pages : (Candidate → ℕ → Bool) → List Candidate → List ℕ → ℕ
-score_of_pages is_of cs pages = sum_by (page_score is_of cs) pages
+score_of_pages is_of cs pages = sum_by (λ page. option_map_or (λ c. c.score) (find (λ c. is_of c page) cs) 0) pages
 
 -- the sum of the scores of the pages of runs
 abbrev pub score_of_runs : List AppliedRun → ℕ
