@@ -1,5 +1,6 @@
 -- The limits of schemes.
 use Rattle.std.specs.Prelude.{ℕ, ◌%◌, Bool, ◌&&◌, ◌==◌, true, not, nat_lt, nat_le, List, position, Option, Some, None, Result, Ok, Err, if◌then◌else◌}
+use Rattle.std.specs.Option.{option_map_or}
 use Rattle.std.specs.Option.{is_some}
 use Rattle.std.specs.Result.{result_and}
 use Rattle.damon_types.specs.declared.range.TheConstants.{MAX_CLASS}
@@ -27,13 +28,11 @@ checked_pattern p =
 
 -- a quota has a reset interval of at least one tick
 abbrev pub checked_quota : Option Quota → Result (Unit {0}) SchemeFault
-checked_quota None = Ok tt
-checked_quota (Some q) = if q.reset == 0 then Err ZeroReset else Ok tt
+checked_quota quota = option_map_or (λ q. if q.reset == 0 then Err ZeroReset else Ok tt) quota (Ok tt)
 
 -- watermarks fall from high over mid to low
 abbrev pub checked_marks : Option Marks → Result (Unit {0}) SchemeFault
-checked_marks None = Ok tt
-checked_marks (Some m) = if nat_le m.mid m.high && nat_le m.low m.mid then Ok tt else Err MarksOutOfOrder
+checked_marks marks = option_map_or (λ m. if nat_le m.mid m.high && nat_le m.low m.mid then Ok tt else Err MarksOutOfOrder) marks (Ok tt)
 
 -- whether the addresses are multiples of the page size and in order, or the class is within its limit
 abbrev pub is_filter : FilterKind → Bool
@@ -47,8 +46,7 @@ bad_filter filters = position (λ f. not (is_filter f.kind)) filters
 
 -- the refusal of the filter with an index
 abbrev pub filter_fault : Option ℕ → Result (Unit {0}) SchemeFault
-filter_fault None = Ok tt
-filter_fault (Some index) = Err (BadFilter index)
+filter_fault found = option_map_or (λ index. Err (BadFilter index)) found (Ok tt)
 
 -- the first limit that a scheme for a slot breaks, in the order of SchemeFault
 abbrev pub checked_scheme : ℕ → Scheme → Result (Unit {0}) SchemeFault
