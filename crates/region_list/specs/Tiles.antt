@@ -1,5 +1,5 @@
 -- Rows tile ranges, stated for each page: the promise.
-use Rattle.std.specs.Prelude.{◌≡◌, ℕ, ◌+◌, ◌≤◌, ◌&&◌, ◌==◌, nat_le, nat_lt, List, [], ◌∷◌, count_by, Any, if◌then◌else◌}
+use Rattle.std.specs.Prelude.{◌≡◌, ℕ, ◌+◌, ◌≤◌, ◌<◌, ◌&&◌, ◌==◌, nat_le, nat_lt, List, [], ◌∷◌, count_by, AllPairs, Any, if◌then◌else◌}
 use Rattle.std.specs.List.{list_any, AllByRecursion}
 use Rattle.damon_types.specs.declared.range.Range.{Range}
 use Rattle.damon_types.specs.Ranges.{end_of, holds_page}
@@ -11,11 +11,6 @@ pub record LiesIn (s : Span) (g : Range) : Type 0 where
   pub from : g.first ≤ s.start
   pub to : s.start + s.pages ≤ end_of g
 
--- the starts of rows rise strictly, the first being at least p
-abbrev pub RiseFrom : ℕ → List Span → Type 0
-RiseFrom p [] = Unit {0}
-RiseFrom p (s ∷ ss) = (p ≤ s.start) × RiseFrom (s.start + 1) ss
-
 -- Each page of a range is held by exactly one row of its target, and any other page by no row. Each row lies in one
 -- range and has at least `unit` pages. Starts rise.
 pub record Tiles (ranges : List Range) (rows : List Span) (unit : ℕ) : Type 0 where
@@ -24,4 +19,4 @@ pub record Tiles (ranges : List Range) (rows : List Span) (unit : ℕ) : Type 0 
       ≡ (if list_any (λ g. (g.target == t) && holds_page p g) ranges then 1 else 0)
   pub within : AllByRecursion (λ s. Any (LiesIn s) ranges) rows
   pub size : AllByRecursion (λ s. unit ≤ s.pages) rows
-  pub rise : RiseFrom 0 rows
+  pub rise : AllPairs (λ s t. s.start < t.start) rows

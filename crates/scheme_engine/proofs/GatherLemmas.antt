@@ -14,7 +14,7 @@ use Rattle.damon_types.specs.declared.space.Target.{Target}
 use Rattle.damon_types.specs.Ranges.{page_total}
 use Rattle.damon_types.specs.Span.{span_of, spans}
 use Rattle.region_list.specs.Rows.{no_row}
-use Rattle.region_list.specs.Tiles.{RiseFrom}
+use Rattle.region_list.proofs.Lemmas.{RiseFrom}
 use Rattle.scheme_filter.specs.Passes.{passes}
 use Rattle.scheme_match.specs.Match.{AreTested, is_match}
 use Rattle.priority.specs.declared.candidates.Candidate.{Candidate}
