@@ -5,7 +5,7 @@ ghost use Rattle.region_list.specs.Tiling.{Tiling};
 ghost use Rattle.region_list.specs.Shrink.{difference, shrunk};
 ghost use Rattle.region_list.specs.Sweep.{DifferBy, IsSweep, in_sweep};
 
-use crate::{RowBuf, join_rows, range_end};
+use crate::{RowBuf, join_rows};
 use damon_types::{Ranges, Row};
 
 // A sweep over rows, which joins in place. The first `kept` rows are finished, `top` is the
@@ -38,22 +38,18 @@ pub(crate) fn join_level(rows: &mut RowBuf, ranges: &Ranges, level: u32, to: usi
         → Tiling unit ranges.now.list (spans (take result rows.new.rows)) }
     ensures done { (result ≤ to) ⊎ DifferBy ranges.now.list (level + 1) (take result rows.new.rows) }
 {
-    // For its clauses alone: the ranges are in order.
-    let _count = ranges.len();
     let mut sweep = Sweep {
         top: rows.at(0),
         kept: 0,
         chain: 0,
         index: 1,
         range: 0,
-        end: range_end(ranges, 0),
+        end: ranges.end(0),
     };
     let mut on = true;
     'moves: while on {
         on = advance(&mut sweep, rows, ranges, level, to);
     }
-    // For its clauses alone: the number of rows is a u32.
-    let _count = rows.len();
     rows.set(sweep.kept, sweep.top);
     sweep.kept + 1
 }
@@ -109,7 +105,7 @@ fn advance(sweep: &mut Sweep, rows: &mut RowBuf, ranges: &Ranges, level: u32, to
     sweep.index += 1;
     if over {
         sweep.range += 1;
-        sweep.end = range_end(ranges, sweep.range);
+        sweep.end = ranges.end(sweep.range);
         sweep.chain = 0;
     } else {
         sweep.chain += 1;

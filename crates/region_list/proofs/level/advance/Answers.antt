@@ -100,8 +100,8 @@ returns-then-sweep-count-clause-done c =
     let within : c.args.sweep.now.kept ≤ length c.args.rows.now.rows = omega (arith, c.requires.ahead, c.requires.within) in
     λ is. at_end c.args.sweep.now.kept (length c.args.rows.now.rows - c.args.sweep.now.index) c.args.to _ (omega (arith, c.if-sweep-count.true, c.count-count.ensures)) (settled c.args.ranges.now.list c.args.level c.args.to c.args.rows.now.rows c.args.sweep.now.top c.args.sweep.now.kept c.args.sweep.now.index c.args.sweep.now.chain c.args.sweep.now.range c.args.sweep.now.end c.left_difference-left.result c.right_difference-right.result within c.requires.sweep c.left_difference-left.ensures (sym c.joins_left.ensures ∙ c.if-joins_left.false) (sym c.joins_right.ensures ∙ c.if-joins_right.false))
 
-pub range_end-sweep-requires-clause-here : goal.range_end-sweep-requires-clause-here
-range_end-sweep-requires-clause-here c =
+pub end-sweep-requires : goal.end-sweep-requires
+end-sweep-requires c =
     let here : c.args.sweep.now.index < length c.args.rows.now.rows = omega (arith, c.requires.within, c.if-sweep-count.false, c.count-count.ensures) in
     more_after c.args.ranges.now.list c.args.level c.args.to c.args.rows.now.rows c.args.sweep.now.top c.args.sweep.now.kept c.args.sweep.now.index c.args.sweep.now.chain c.args.sweep.now.range c.args.sweep.now.end c.len-ranges.ensures.order here c.requires.sweep c.if-over.true
 
@@ -109,10 +109,10 @@ pub returns-then-over-clause-sweep : goal.returns-then-over-clause-sweep
 returns-then-over-clause-sweep c =
     let within : c.args.sweep.now.kept ≤ length c.args.rows.now.rows = omega (arith, c.requires.ahead, c.requires.within) in
     let here : c.args.sweep.now.index < length c.args.rows.now.rows = omega (arith, c.requires.within, c.if-sweep-count.false, c.count-count.ensures) in
-    rw (c.at-sweep.ensures, c.set.ensures) (move_over c.args.ranges.now.list c.args.level c.args.to c.args.rows.now.rows c.args.sweep.now.top c.args.sweep.now.kept c.args.sweep.now.index c.args.sweep.now.chain c.args.sweep.now.range c.args.sweep.now.end c.range_end-sweep.result c.len-ranges.ensures.order c.requires.ahead here c.requires.sweep c.if-over.true c.range_end-sweep.ensures (settled c.args.ranges.now.list c.args.level c.args.to c.args.rows.now.rows c.args.sweep.now.top c.args.sweep.now.kept c.args.sweep.now.index c.args.sweep.now.chain c.args.sweep.now.range c.args.sweep.now.end c.left_difference-left.result c.right_difference-right.result within c.requires.sweep c.left_difference-left.ensures (sym c.joins_left.ensures ∙ c.if-joins_left.false) (sym c.joins_right.ensures ∙ c.if-joins_right.false)))
+    rw (c.at-sweep.ensures, c.set.ensures.set) (move_over c.args.ranges.now.list c.args.level c.args.to c.args.rows.now.rows c.args.sweep.now.top c.args.sweep.now.kept c.args.sweep.now.index c.args.sweep.now.chain c.args.sweep.now.range c.args.sweep.now.end c.end-sweep.result c.len-ranges.ensures.order c.requires.ahead here c.requires.sweep c.if-over.true c.end-sweep.ensures.end (settled c.args.ranges.now.list c.args.level c.args.to c.args.rows.now.rows c.args.sweep.now.top c.args.sweep.now.kept c.args.sweep.now.index c.args.sweep.now.chain c.args.sweep.now.range c.args.sweep.now.end c.left_difference-left.result c.right_difference-right.result within c.requires.sweep c.left_difference-left.ensures (sym c.joins_left.ensures ∙ c.if-joins_left.false) (sym c.joins_right.ensures ∙ c.if-joins_right.false)))
 
 pub returns-else-over-clause-sweep : goal.returns-else-over-clause-sweep
 returns-else-over-clause-sweep c =
     let within : c.args.sweep.now.kept ≤ length c.args.rows.now.rows = omega (arith, c.requires.ahead, c.requires.within) in
     let here : c.args.sweep.now.index < length c.args.rows.now.rows = omega (arith, c.requires.within, c.if-sweep-count.false, c.count-count.ensures) in
-    rw (c.at-sweep.ensures, c.set.ensures) (move_on c.args.ranges.now.list c.args.level c.args.to c.args.rows.now.rows c.args.sweep.now.top c.args.sweep.now.kept c.args.sweep.now.index c.args.sweep.now.chain c.args.sweep.now.range c.args.sweep.now.end c.requires.ahead here c.requires.sweep c.if-over.false (settled c.args.ranges.now.list c.args.level c.args.to c.args.rows.now.rows c.args.sweep.now.top c.args.sweep.now.kept c.args.sweep.now.index c.args.sweep.now.chain c.args.sweep.now.range c.args.sweep.now.end c.left_difference-left.result c.right_difference-right.result within c.requires.sweep c.left_difference-left.ensures (sym c.joins_left.ensures ∙ c.if-joins_left.false) (sym c.joins_right.ensures ∙ c.if-joins_right.false)))
+    rw (c.at-sweep.ensures, c.set.ensures.set) (move_on c.args.ranges.now.list c.args.level c.args.to c.args.rows.now.rows c.args.sweep.now.top c.args.sweep.now.kept c.args.sweep.now.index c.args.sweep.now.chain c.args.sweep.now.range c.args.sweep.now.end c.requires.ahead here c.requires.sweep c.if-over.false (settled c.args.ranges.now.list c.args.level c.args.to c.args.rows.now.rows c.args.sweep.now.top c.args.sweep.now.kept c.args.sweep.now.index c.args.sweep.now.chain c.args.sweep.now.range c.args.sweep.now.end c.left_difference-left.result c.right_difference-right.result within c.requires.sweep c.left_difference-left.ensures (sym c.joins_left.ensures ∙ c.if-joins_left.false) (sym c.joins_right.ensures ∙ c.if-joins_right.false)))
