@@ -85,13 +85,14 @@ fn advance(sweep: &mut Sweep, rows: &mut RowBuf, ranges: &Ranges, level: u32, to
     let over = sweep.top.start + sweep.top.pages == sweep.end;
     let left = left_difference(sweep, rows);
     let right = right_difference(sweep, rows, over);
-    if joins_left(sweep, rows, to, left, right, level) {
+    let more = has_more(sweep, rows, to);
+    if joins_left(more, left, right, level) {
         sweep.kept -= 1;
         sweep.chain -= 1;
         sweep.top = join_rows(&rows.at(sweep.kept), &sweep.top);
         return true;
     }
-    if joins_right(sweep, rows, to, right, level) {
+    if joins_right(more, right, level) {
         sweep.top = join_rows(&sweep.top, &rows.at(sweep.index));
         sweep.index += 1;
         return true;
@@ -144,26 +145,17 @@ fn right_difference(sweep: &Sweep, rows: &RowBuf, over: bool) -> u64
 }
 
 // Whether the top is joined with the row before it, which is done first where both sides differ equally.
-fn joins_left(sweep: &Sweep, rows: &RowBuf, to: usize, left: u64, right: u64, level: u32) -> bool
-    requires ahead { sweep.now.kept < sweep.now.index }
-    requires within { sweep.now.index ≤ length rows.now.rows }
-    ensures { result
-        ≡ (nat_lt to (sweep.now.kept + 1 + (length rows.now.rows - sweep.now.index))
-        && (nat_le left level && nat_le left right)) }
+// `more` says that more rows are left than are wanted.
+fn joins_left(more: bool, left: u64, right: u64, level: u32) -> bool
+    ensures { result ≡ (more && (nat_le left level && nat_le left right)) }
 {
-    let more = has_more(sweep, rows, to);
     more && left <= u64::from(level) && left <= right
 }
 
 // Whether the top is joined with the next row, where it is not joined with the row before it.
-fn joins_right(sweep: &Sweep, rows: &RowBuf, to: usize, right: u64, level: u32) -> bool
-    requires ahead { sweep.now.kept < sweep.now.index }
-    requires within { sweep.now.index ≤ length rows.now.rows }
-    ensures { result
-        ≡ (nat_lt to (sweep.now.kept + 1 + (length rows.now.rows - sweep.now.index))
-        && nat_le right level) }
+fn joins_right(more: bool, right: u64, level: u32) -> bool
+    ensures { result ≡ (more && nat_le right level) }
 {
-    let more = has_more(sweep, rows, to);
     more && right <= u64::from(level)
 }
 
