@@ -103,8 +103,8 @@ impl Picks {
         &self.bits
     }
 
-    /// Whether a check was a hit.
-    pub fn any_hit(&self) -> bool
+    // Whether a check was a hit.
+    pub(crate) fn any_hit(&self) -> bool
         ensures any { result ≡ list_any (λ hit. hit) self.now.bits }
         ensures each { length self.now.bits ≡ length self.now.pages }
     {
