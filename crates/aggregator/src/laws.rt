@@ -1,4 +1,4 @@
-// What aging and clearing keep, for the crates above. These functions do nothing.
+// What aging and clearing keep, for the crates above.
 ghost use Rattle.std.specs.Prelude.{◌≡◌, ℕ, ◌≤◌, List, length};
 ghost use Rattle.std.specs.List.{AllByRecursion};
 ghost use Rattle.damon_types.specs.declared.row.Row.{Row as row};

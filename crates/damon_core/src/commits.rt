@@ -1,4 +1,3 @@
-// What a commit changes.
 ghost use Rattle.std.specs.Prelude.{◌≡◌, ◌^◌, ◌≤◌, ◌<◌, ◌∷◌, [], List, length, OnErr, Some, Ok, if◌then◌else◌};
 ghost use Rattle.damon_types.specs.declared.row.Row.{Row as row};
 ghost use Rattle.damon_types.specs.declared.scheme.CostPart.{CostPart as cost_part};

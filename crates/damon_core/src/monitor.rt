@@ -91,8 +91,6 @@ impl Monitor {
     {
         opening_is_reached(setup);
         let regions = first_regions(alloc, setup)?;
-        // For its clauses alone: the rows tile their ranges and are within their limits.
-        let _rows = regions.len();
         let sampling = Sampling::new(alloc, regions)?;
         let space = setup.space.clone()?;
         let report = Report::new(alloc, setup.cap)?;
@@ -224,10 +222,7 @@ impl Monitor {
         ensures alone { self.new ≡ record self.old { core = self.new.core; bits = self.new.bits } }
         ensures event { Makes Stands self.old self.new (prepare_event words.now ∷ []) }
     {
-        let sampling = &mut *self.sampling;
-        // For its clauses alone: the rows tile their ranges and are within their limits.
-        let _rows = sampling.regions().len();
-        sampling.prepare(words);
+        self.sampling.prepare(words);
     }
 
     /// Prepares a pass as [`Monitor::prepare`] does, by the next random words of a source. They are drawn as
@@ -245,10 +240,7 @@ impl Monitor {
         ensures each { length (drawn (row_count self.old.core) (R.stream source.old))
             ≡ row_count self.old.core }
     {
-        let sampling = &mut *self.sampling;
-        // For its clauses alone: the rows tile their ranges and are within their limits.
-        let _rows = sampling.regions().len();
-        sampling.prepare_from(source);
+        self.sampling.prepare_from(source);
     }
 
     /// The page of pick `k`, one for each row, of the pass under way.
@@ -357,8 +349,6 @@ impl Monitor {
         let report = &mut *self.report;
         sampling.serve(engine, report, &self.space, aggr, tick);
         let rows = sampling.regions();
-        // For its clauses alone: the rows tile their ranges and are within their limits.
-        let _rows = rows.len();
         report.set(tick, threshold, rows.rows());
         sampling.split(words);
         self.clock.since = 0;

@@ -1,4 +1,3 @@
-// The end of a pass.
 ghost use Rattle.std.specs.Prelude.{◌≡◌, ◌+◌, ◌^◌, ◌<◌, ◌∷◌, [], count_by};
 ghost use Rattle.live_commit.specs.declared.phase.Phase.TheVariants as variant;
 ghost use Rattle.sampler.specs.Counted.{raised};

@@ -1,6 +1,7 @@
 ghost use Rattle.std.specs.Prelude.{◌≡◌, ◌+◌, ◌*◌, ◌^◌, ◌≤◌, ◌<◌, false, [], length, count_by, option_map, replicate, slice_set, IfOk};
 ghost use Rattle.std.specs.List.{AllByRecursion};
 ghost use Rattle.damon_types.specs.Within.{AreWithin};
+ghost use Rattle.region_list.specs.Regions.{IsRegionList};
 ghost use Rattle.live_commit.specs.Accepted.{AllowsCommit};
 ghost use Rattle.live_commit.specs.declared.phase.Phase.TheVariants as variant;
 ghost use Rattle.sampler.specs.Counted.{raised};
@@ -127,14 +128,15 @@ impl Sampling {
     // Prepares a pass: picks a page of each row by the words that are given, one for each.
     pub(crate) fn prepare(&mut self, words: &[u32])
         requires { length words.now ≡ length self.old.regions.rows }
-        ensures { self.new ≡ record self.old {
+        ensures prepared { self.new ≡ record self.old {
           phase = variant.Clearing 0;
           picks = picks_of self.old.regions.rows words.now;
           bits = replicate (length self.old.regions.rows) false;
         } }
+        ensures kept { IsRegionList self.old.regions }
     {
         // For its clauses alone: there are at most `cap` rows.
-        let _rows = self.regions.len();
+        let _rows = self.regions.rows();
         set_picks(&self.regions, words, &mut self.picks);
         self.hits_so_far = 0;
         self.phase = Phase::Clearing { next: 0 };
@@ -152,9 +154,10 @@ impl Sampling {
             ≡ drawn_rest (length self.old.regions.rows) (R.stream source.old) }
         ensures each { length (drawn (length self.old.regions.rows) (R.stream source.old))
             ≡ length self.old.regions.rows }
+        ensures kept { IsRegionList self.old.regions }
     {
         // For its clauses alone: there are at most `cap` rows.
-        let _rows = self.regions.len();
+        let _rows = self.regions.rows();
         draw_picks(&self.regions, source, &mut self.picks);
         self.hits_so_far = 0;
         self.phase = Phase::Clearing { next: 0 };
@@ -185,8 +188,6 @@ impl Sampling {
         ensures each { length self.old.bits ≡ length self.old.regions.rows }
         ensures here { load_index self.old.phase < length self.old.regions.rows }
     {
-        // For its clauses alone: the number of rows is a u32.
-        let _rows = self.regions.len();
         let index = next_load(self.phase);
         self.picks.set(index, hit);
         self.hits_so_far += u32::from(hit);
@@ -222,8 +223,6 @@ impl Sampling {
         ensures each { length self.old.bits ≡ length self.old.regions.rows }
         ensures picks { length self.old.picks ≡ length self.old.regions.rows }
     {
-        // For its clauses alone: the number of rows is a u32.
-        let _rows = self.regions.len();
         let from = next_load(self.phase);
         self.hits_so_far += self.picks.load(from, count, marks);
         self.phase = Phase::Checking { next: from + count };

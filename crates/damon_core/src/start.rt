@@ -2,6 +2,7 @@
 ghost use Rattle.std.specs.Prelude.{◌≡◌, ◌≤◌, length, IfOk};
 ghost use Rattle.std.specs.List.{AllByRecursion};
 ghost use Rattle.damon_types.specs.Span.{spans};
+ghost use Rattle.region_list.specs.Regions.{IsRegionList};
 ghost use Rattle.region_list.specs.Tiling.{Tiling};
 ghost use Rattle.live_commit.specs.SetupView.{value_of};
 ghost use Rattle.damon_core.specs.Kept.{IsUnused};
@@ -37,7 +38,8 @@ pub(crate) fn first_engine(alloc: Global, setup: &Setup) -> Result<Box<Engine>, 
 
 // The regions of a monitor before its first pass.
 pub(crate) fn first_regions(alloc: Global, setup: &Setup) -> Result<Regions, AllocError>
-    ensures { IfOk result (λ r. r ≡ (opening_core (value_of setup.now)).regions) }
+    ensures regions { IfOk result (λ r. r ≡ (opening_core (value_of setup.now)).regions) }
+    ensures kept { IfOk result (λ r. IsRegionList r) }
 {
     let rows = first_rows(alloc, setup)?;
     let mut regions = Regions::new(alloc, setup.unit, setup.cap, setup.attrs.max)?;

@@ -1,4 +1,3 @@
-// How often a stream was called, and how often it failed.
 ghost use Rattle.std.specs.Prelude.{◌≡◌};
 ghost use Rattle.damon_types.specs.Calls.{after_call, no_calls};
 

@@ -1,5 +1,4 @@
-// Laws of the definitions that the contracts cite, for the proofs of callers. The functions have no
-// bodies.
+// Laws of the definitions that the contracts cite, for the proofs of callers.
 ghost use Rattle.std.specs.Prelude.{◌≡◌, ℕ, ◌<◌, ◌≤◌, List, Some};
 ghost use Rattle.damon_types.specs.declared.space.Target.{Target};
 ghost use Rattle.damon_types.specs.Space.{IsSpace, pages_of, page_of, place_of};

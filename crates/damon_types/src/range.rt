@@ -1,6 +1,7 @@
-ghost use Rattle.std.specs.Prelude.{◌≡◌, ◌+◌, ◌^◌, ◌<◌, ◌≤◌, [], ◌∷◌, ◌++◌, length, slice_get, IfOk};
+ghost use Rattle.std.specs.Prelude.{◌≡◌, ◌+◌, ◌^◌, ◌<◌, ◌≤◌, [], ◌∷◌, ◌++◌, Some, length, slice_get, IfOk};
+ghost use Rattle.std.specs.Option.{option_map};
 ghost use Rattle.std.specs.List.Sorted.{IsPartitionPoint};
-ghost use Rattle.damon_types.specs.Ranges.{RangeList, InOrder, page_total, class_of, Follows};
+ghost use Rattle.damon_types.specs.Ranges.{RangeList, InOrder, end_of, page_total, class_of, Follows};
 
 use crate::append_reserved;
 use std::alloc::{AllocError, Global};
@@ -86,6 +87,17 @@ impl Ranges {
         ensures { slice_get self.now.list index ≡ Some result }
     {
         self.items[index as usize]
+    }
+
+    /// The page after the last page of the range with this index, which must be below [`Ranges::len`].
+    pub fn end(&self, index: u32) -> u32
+        requires { index < length self.now.list }
+        ensures end { option_map end_of (slice_get self.now.list index) ≡ Some result }
+        ensures order { InOrder self.now.list }
+        ensures few { length self.now.list < 2 ^ 32 }
+    {
+        let range = self.items[index as usize];
+        range.first + range.pages
     }
 
     /// Empties the list.

@@ -1,5 +1,4 @@
-// Laws of the definitions that the contracts cite, for the proofs of callers. The functions have no
-// bodies.
+// Laws of the definitions that the contracts cite, for the proofs of callers.
 ghost use Rattle.std.specs.Prelude.{◌≡◌, ◌≤◌, List, Ok};
 ghost use Rattle.std.specs.List.{AllByRecursion};
 ghost use Rattle.damon_types.specs.declared.scheme.TheConstants.{MAX_SLOT};

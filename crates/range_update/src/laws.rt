@@ -1,4 +1,4 @@
-// What holds of range updates, for the crates above. No function here does anything.
+// What holds of range updates, for the crates above.
 ghost use Rattle.std.specs.Prelude.{◌≡◌, ℕ, ◌≤◌, ◌<◌, List, length};
 ghost use Rattle.std.specs.List.{AllByRecursion};
 ghost use Rattle.damon_types.specs.declared.range.Range.{Range as range};

@@ -1,5 +1,4 @@
-// Finding old rows by page.
-ghost use Rattle.std.specs.Prelude.{◌≡◌, ◌≤◌, ◌<◌, true, false, length};
+ghost use Rattle.std.specs.Prelude.{◌≡◌, ◌^◌, ◌≤◌, ◌<◌, true, false, length};
 ghost use Rattle.region_list.specs.Rows.{row_at};
 ghost use Rattle.range_update.specs.Order.{EndBy, RowsInOrder, row_end as row_end_of};
 ghost use Rattle.range_update.specs.Updated.{covering_row as covering_row_of};
@@ -16,13 +15,15 @@ pub(crate) fn skip_rows(rows: &RowBuf, page: u32, from: usize) -> usize
     ensures past { EndBy page rows.now.rows result }
     ensures forward { from ≤ result }
     ensures next { result < length rows.now.rows → page < row_end_of (row_at rows.now.rows result) }
+    ensures few { length rows.now.rows < 2 ^ 32 }
 {
-    'ended: for index in from..rows.count() {
+    let count = rows.len() as usize;
+    'ended: for index in from..count {
         if page < row_end(rows, index) {
             return index;
         }
     }
-    rows.count()
+    count
 }
 
 // Whether there is a row with this index, and it ends by the page.

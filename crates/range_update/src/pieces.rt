@@ -1,4 +1,3 @@
-// The pieces of one new range.
 ghost use Rattle.std.specs.Prelude.{◌≡◌, ℕ, true, ◌+◌, ◌^◌, ◌≤◌, ◌<◌, List, [], ◌∷◌, ◌++◌, drop, length, if◌then◌else◌};
 ghost use Rattle.damon_types.specs.Ranges.{end_of};
 ghost use Rattle.region_list.specs.Rows.{row_at};
@@ -41,8 +40,6 @@ pub(crate) fn cut_range(
     ensures forward { from ≤ result }
 {
     let end = range.first + range.pages;
-    // For its clauses alone: the number of rows is a u32.
-    let _len = rows.len();
     let mut index = skip_rows(rows, range.first, from);
     let first = covering_row(rows, index, range.first);
     let mut current = begin_piece(range.target, range.first, first);
@@ -89,8 +86,6 @@ fn push_whole_rows(cut: &Cutting<'_>, from: usize, current: Row, made: &mut RowB
         ++ pieces_from cut.now.rows.now.rows current.target cut.now.unit cut.now.end current.start
         (boundaries (drop from cut.now.rows.now.rows)) }
 {
-    // For its clauses alone: the number of rows is a u32.
-    let _count = cut.rows.len();
     let mut next = from;
     let mut start = current.start;
     'whole: while is_whole(cut, next, current.target, start) {
@@ -118,8 +113,9 @@ fn is_whole(cut: &Cutting<'_>, index: usize, target: u32, start: u32) -> bool
     ensures end { result ≡ true
         → may_keep_at cut.now.unit cut.now.end start
         (row_end_of (row_at cut.now.rows.now.rows index)) ≡ true }
+    ensures few { length cut.now.rows.now.rows < 2 ^ 32 }
 {
-    index < cut.rows.count()
+    index < cut.rows.len() as usize
         && cut.rows.at(index).target == target
         && cut.rows.at(index).start == start
         && may_keep(cut.unit, cut.end, start, row_end(cut.rows, index))

@@ -33,8 +33,6 @@ pub fn update(regions: &mut Regions, ranges: &Ranges, max: u32, scratch: &mut Ro
     } }
     ensures scratch { scratch.new.cap ≡ scratch.old.cap }
 {
-    // For its clauses alone: the old rows tile ranges in order.
-    let _count = regions.len();
     cut_ranges(regions.rows(), ranges, regions.unit(), scratch);
     shrink_rows(scratch, ranges, max);
     regions.replace(ranges, scratch, max);

@@ -9,12 +9,12 @@ use Rattle.damon_types.specs.declared.range.Range.{Range}
 use Rattle.damon_types.specs.declared.row.Row.{Row}
 use Rattle.damon_types.specs.Ranges.{InOrder, end_of}
 use Rattle.damon_types.specs.Span.{span_of, spans}
+use Rattle.damon_types.proofs.Lemmas.{end_at}
 use Rattle.region_list.specs.declared.shrink.Pair.{Pair}
 use Rattle.region_list.specs.Rows.{no_row, row_at}
 use Rattle.region_list.specs.Tiling.{Tiling}
 use Rattle.region_list.specs.Walk.{TilesFrom, BeginsIn}
 use Rattle.region_list.specs.Shrink.{in_one_range, difference, closest}
-use Rattle.region_list.proofs.TilingLemmas.{end_at}
 use Rattle.region_list.proofs.PairLemmas.{IsPair, pair_within, closest_is}
 use Rattle.region_list.proofs.WalkLemmas.{Next, Step, step, tiling_rest, drop_tail, ordered_after, next_in, next_out, some_pair}
 

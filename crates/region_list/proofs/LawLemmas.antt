@@ -7,12 +7,13 @@ use Rattle.damon_types.specs.declared.range.Range.{Range}
 use Rattle.damon_types.specs.declared.row.Row.{Row}
 use Rattle.damon_types.specs.Ranges.{InOrder, end_of}
 use Rattle.damon_types.specs.Span.{spans}
+use Rattle.damon_types.proofs.Lemmas.{end_at}
 use Rattle.region_list.specs.Tiling.{Tiling}
 use Rattle.region_list.specs.Join.{join}
 use Rattle.region_list.specs.Shrink.{in_one_range, difference, joined_at}
 use Rattle.region_list.specs.Walk.{TilesFrom, BeginsIn}
 use Rattle.region_list.proofs.JoinLemmas.{sizes_joined}
-use Rattle.region_list.proofs.TilingLemmas.{tiling_size, tiling_weaker, end_at}
+use Rattle.region_list.proofs.TilingLemmas.{tiling_size, tiling_weaker}
 use Rattle.region_list.proofs.WalkLemmas.{Next, Step, step, prepend, tiling_joined}
 use Rattle.region_list.proofs.ClosestLemmas.{at_begin, at_on, at_over, here_within}
 use Rattle.region_list.proofs.ShrinkLemmas.{tiling_of_sizes}

@@ -10,13 +10,13 @@ use Rattle.damon_types.specs.declared.range.Range.{Range}
 use Rattle.damon_types.specs.declared.row.Row.{Row}
 use Rattle.damon_types.specs.Ranges.{InOrder, end_of}
 use Rattle.damon_types.specs.Span.{spans}
+use Rattle.damon_types.proofs.Lemmas.{end_at}
 use Rattle.region_list.specs.Tiling.{Tiling}
 use Rattle.region_list.specs.Walk.{BeginsIn}
 use Rattle.region_list.specs.Join.{join}
 use Rattle.region_list.specs.Rows.{no_row, row_at}
 use Rattle.region_list.specs.Shrink.{in_one_range, difference}
 use Rattle.region_list.specs.Sweep.{DifferBy, IsSweep}
-use Rattle.region_list.proofs.TilingLemmas.{end_at}
 use Rattle.region_list.proofs.WalkLemmas.{step}
 use Rattle.region_list.proofs.ClosestLemmas.{here_within, at_begin, at_on, at_over}
 use Rattle.region_list.proofs.SweepLemmas.{IsStep, differ_tail, differ_weaker, differ_first, differ_push, shrunk_here, sweep_join, sweep_on, sweep_over, sweep_back, before_some, before_one, before_none}

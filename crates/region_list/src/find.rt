@@ -1,4 +1,3 @@
-// Finding the row that holds a page.
 ghost use Rattle.std.specs.Prelude.{◌≡◌, ℕ, ◌≤◌, ◌<◌, ◌^◌, length};
 ghost use Rattle.region_list.specs.Rows.{row_at};
 ghost use Rattle.region_list.specs.Find.{AscendFrom, row_index};

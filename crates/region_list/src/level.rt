@@ -5,7 +5,7 @@ ghost use Rattle.region_list.specs.Tiling.{Tiling};
 ghost use Rattle.region_list.specs.Shrink.{difference, shrunk};
 ghost use Rattle.region_list.specs.Sweep.{DifferBy, IsSweep, in_sweep};
 
-use crate::{RowBuf, join_rows, range_end};
+use crate::{RowBuf, join_rows};
 use damon_types::{Ranges, Row};
 
 // A sweep over rows, which joins in place. The first `kept` rows are finished, `top` is the
@@ -38,22 +38,18 @@ pub(crate) fn join_level(rows: &mut RowBuf, ranges: &Ranges, level: u32, to: usi
         → Tiling unit ranges.now.list (spans (take result rows.new.rows)) }
     ensures done { (result ≤ to) ⊎ DifferBy ranges.now.list (level + 1) (take result rows.new.rows) }
 {
-    // For its clauses alone: the ranges are in order.
-    let _count = ranges.len();
     let mut sweep = Sweep {
         top: rows.at(0),
         kept: 0,
         chain: 0,
         index: 1,
         range: 0,
-        end: range_end(ranges, 0),
+        end: ranges.end(0),
     };
     let mut on = true;
     'moves: while on {
         on = advance(&mut sweep, rows, ranges, level, to);
     }
-    // For its clauses alone: the number of rows is a u32.
-    let _count = rows.len();
     rows.set(sweep.kept, sweep.top);
     sweep.kept + 1
 }
@@ -89,13 +85,14 @@ fn advance(sweep: &mut Sweep, rows: &mut RowBuf, ranges: &Ranges, level: u32, to
     let over = sweep.top.start + sweep.top.pages == sweep.end;
     let left = left_difference(sweep, rows);
     let right = right_difference(sweep, rows, over);
-    if joins_left(sweep, rows, to, left, right, level) {
+    let more = has_more(sweep, rows, to);
+    if joins_left(more, left, right, level) {
         sweep.kept -= 1;
         sweep.chain -= 1;
         sweep.top = join_rows(&rows.at(sweep.kept), &sweep.top);
         return true;
     }
-    if joins_right(sweep, rows, to, right, level) {
+    if joins_right(more, right, level) {
         sweep.top = join_rows(&sweep.top, &rows.at(sweep.index));
         sweep.index += 1;
         return true;
@@ -109,7 +106,7 @@ fn advance(sweep: &mut Sweep, rows: &mut RowBuf, ranges: &Ranges, level: u32, to
     sweep.index += 1;
     if over {
         sweep.range += 1;
-        sweep.end = range_end(ranges, sweep.range);
+        sweep.end = ranges.end(sweep.range);
         sweep.chain = 0;
     } else {
         sweep.chain += 1;
@@ -148,26 +145,17 @@ fn right_difference(sweep: &Sweep, rows: &RowBuf, over: bool) -> u64
 }
 
 // Whether the top is joined with the row before it, which is done first where both sides differ equally.
-fn joins_left(sweep: &Sweep, rows: &RowBuf, to: usize, left: u64, right: u64, level: u32) -> bool
-    requires ahead { sweep.now.kept < sweep.now.index }
-    requires within { sweep.now.index ≤ length rows.now.rows }
-    ensures { result
-        ≡ (nat_lt to (sweep.now.kept + 1 + (length rows.now.rows - sweep.now.index))
-        && (nat_le left level && nat_le left right)) }
+// `more` says that more rows are left than are wanted.
+fn joins_left(more: bool, left: u64, right: u64, level: u32) -> bool
+    ensures { result ≡ (more && (nat_le left level && nat_le left right)) }
 {
-    let more = has_more(sweep, rows, to);
     more && left <= u64::from(level) && left <= right
 }
 
 // Whether the top is joined with the next row, where it is not joined with the row before it.
-fn joins_right(sweep: &Sweep, rows: &RowBuf, to: usize, right: u64, level: u32) -> bool
-    requires ahead { sweep.now.kept < sweep.now.index }
-    requires within { sweep.now.index ≤ length rows.now.rows }
-    ensures { result
-        ≡ (nat_lt to (sweep.now.kept + 1 + (length rows.now.rows - sweep.now.index))
-        && nat_le right level) }
+fn joins_right(more: bool, right: u64, level: u32) -> bool
+    ensures { result ≡ (more && nat_le right level) }
 {
-    let more = has_more(sweep, rows, to);
     more && right <= u64::from(level)
 }
 

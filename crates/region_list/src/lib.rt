@@ -22,8 +22,6 @@ mod row_buf;
 mod same;
 /// Shrinking a list of rows.
 mod shrink;
-/// Walking the rows range by range.
-mod walk;
 
 pub use division::divide;
 pub use join::join_rows;
@@ -36,4 +34,3 @@ pub use regions::Regions;
 pub use row_buf::RowBuf;
 pub use same::same_spans;
 pub use shrink::shrink_rows;
-pub use walk::range_end;

@@ -2,6 +2,7 @@ ghost use Rattle.std.specs.Prelude.{◌≡◌, ◌+◌, ◌-◌, ◌≤◌, ◌<
 ghost use Rattle.damon_types.specs.Ranges.{InOrder};
 ghost use Rattle.damon_types.specs.Span.{spans};
 ghost use Rattle.region_list.specs.Rows.{cut_after, row_at, with_two, with_values};
+ghost use Rattle.region_list.specs.Regions.{IsRegionList};
 ghost use Rattle.region_list.specs.Tiles.{Tiles};
 ghost use Rattle.region_list.specs.Tiling.{Tiling};
 ghost use Rattle.region_list.specs.Shrink.{in_one_range, joined_at, shrunk};
@@ -73,11 +74,12 @@ impl Regions {
         requires least { 1 ≤ max }
         requires most { max ≤ self.old.cap }
         requires ranges { length ranges.now.list ≤ self.old.cap }
-        ensures { self.new ≡ record self.old {
+        ensures lists { self.new ≡ record self.old {
           ranges = ranges.now.list;
           rows = rows.now.rows;
           max = max;
         } }
+        ensures kept { IsRegionList self.new }
     {
         self.ranges.copy_from(ranges);
         self.rows.copy_from(rows);
@@ -135,8 +137,6 @@ impl Regions {
         requires second { self.old.unit ≤ (row_at self.old.rows index).pages - pages }
         ensures { self.new ≡ record self.old { rows = cut_after self.old.rows index pages } }
     {
-        // For its clauses alone: the rows tile the ranges, and `unit` is at least 1.
-        let _count = self.len();
         let row = self.row(index);
         let second = Row {
             start: row.start + pages,
@@ -168,8 +168,6 @@ impl Regions {
             (row_at self.old.rows (index + 1)) ≡ true }
         ensures { self.new ≡ record self.old { rows = joined_at index self.old.rows } }
     {
-        // For its clauses alone: the rows tile the ranges, which are in order.
-        let _count = self.len();
         let first = self.row(index);
         let second = self.row(index + 1);
         let joined = join_rows(&first, &second);
@@ -244,6 +242,7 @@ impl Regions {
     pub fn rows(&self) -> &RowBuf
         ensures rows { result.now.rows ≡ self.now.rows }
         ensures cap { result.now.cap ≡ self.now.cap }
+        ensures kept { IsRegionList self.now }
     {
         &self.rows
     }
@@ -256,6 +255,7 @@ impl Regions {
         ensures size { self.now.unit ≤ result.pages }
         ensures some { 1 ≤ result.pages }
         ensures end { result.start + result.pages < 2 ^ 32 }
+        ensures kept { IsRegionList self.now }
     {
         self.rows.get(index)
     }

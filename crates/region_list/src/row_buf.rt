@@ -1,4 +1,4 @@
-ghost use Rattle.std.specs.Prelude.{◌≡◌, ◌+◌, ◌-◌, ◌≤◌, ◌<◌, [], ◌∷◌, ◌++◌, length, map, slice_get, slice_set, take, drop, vec_len, vec_capacity, IfOk};
+ghost use Rattle.std.specs.Prelude.{◌≡◌, ◌+◌, ◌-◌, ◌^◌, ◌≤◌, ◌<◌, [], ◌∷◌, ◌++◌, length, map, slice_get, slice_set, take, drop, vec_len, vec_capacity, IfOk};
 ghost use Rattle.std.specs.List.{insert};
 ghost use Rattle.damon_types.specs.Span.{spans};
 ghost use Rattle.region_list.specs.Rows.{row_at, with_values};
@@ -180,7 +180,8 @@ impl RowBuf {
     // Replaces the row with this index, which is below the number of rows.
     pub(crate) fn set(&mut self, index: usize, row: Row)
         requires { index < length self.old.rows }
-        ensures { self.new ≡ record self.old { rows = slice_set self.old.rows index row } }
+        ensures set { self.new ≡ record self.old { rows = slice_set self.old.rows index row } }
+        ensures few { length self.old.rows < 2 ^ 32 }
     {
         self.targets[index] = row.target;
         self.starts[index] = row.start;
@@ -306,14 +307,12 @@ impl RowBuf {
           rows = self.old.rows ++ take (to - from) (drop from rows.now.rows);
         } }
     {
-        // For its clauses alone: each column has as many numbers as there are rows.
-        let _count = rows.count();
-        append_reserved(&mut self.targets, &rows.targets[from..to]);
-        append_reserved(&mut self.starts, &rows.starts[from..to]);
-        append_reserved(&mut self.pages, &rows.pages[from..to]);
-        append_reserved(&mut self.counts, &rows.counts[from..to]);
-        append_reserved(&mut self.lasts, &rows.lasts[from..to]);
-        append_reserved(&mut self.ages, &rows.ages[from..to]);
+        append_reserved(&mut self.targets, &rows.targets()[from..to]);
+        append_reserved(&mut self.starts, &rows.starts()[from..to]);
+        append_reserved(&mut self.pages, &rows.pages()[from..to]);
+        append_reserved(&mut self.counts, &rows.counts()[from..to]);
+        append_reserved(&mut self.lasts, &rows.lasts()[from..to]);
+        append_reserved(&mut self.ages, &rows.ages()[from..to]);
     }
 
     /// Empties the list. The capacity stays.

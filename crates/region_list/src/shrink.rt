@@ -5,8 +5,8 @@ ghost use Rattle.region_list.specs.Tiling.{Tiling};
 ghost use Rattle.region_list.specs.Sweep.{DifferBy};
 ghost use Rattle.region_list.specs.Shrink.{closest as closest_of, differences, least, shrunk};
 
+use crate::RowBuf;
 use crate::level::join_level;
-use crate::{RowBuf, range_end};
 use damon_types::Ranges;
 
 /// Shrinks the list: while there are more than `to` rows, joins the adjacent pair of one range whose
@@ -36,8 +36,6 @@ pub(crate) fn shrink_buf(rows: &mut RowBuf, ranges: &Ranges, to: u32)
         → Tiling unit ranges.now.list (spans rows.new.rows) }
     ensures capacity { rows.new.cap ≡ rows.old.cap }
 {
-    // For its clauses alone: the ranges are in order.
-    let _count = ranges.len();
     // Each round joins all pairs that differ least, and those that come to differ as little by a join.
     'levels: while rows.len() > to {
         let level = least_difference(rows, ranges);
@@ -69,7 +67,8 @@ fn join_pairs(rows: &mut RowBuf, ranges: &Ranges, level: u32, to: u32)
 fn least_difference(rows: &RowBuf, ranges: &Ranges) -> u32
     requires tiling { Tiling 1 ranges.now.list (spans rows.now.rows) }
     requires more { length ranges.now.list < length rows.now.rows }
-    ensures { result ≡ least (differences ranges.now.list rows.now.rows) }
+    ensures least { result ≡ least (differences ranges.now.list rows.now.rows) }
+    ensures order { InOrder ranges.now.list }
 {
     let first = closest(rows, ranges);
     prove!(first < rows.count() - 1);
@@ -90,16 +89,14 @@ fn closest(rows: &RowBuf, ranges: &Ranges) -> usize
     ensures first { result ≡ closest_of ranges.now.list rows.now.rows }
     ensures order { InOrder ranges.now.list }
 {
-    // For its clauses alone: the ranges are in order, and their number is a u32.
-    let _count = ranges.len();
     let mut range = 0;
-    let mut end = range_end(ranges, range);
+    let mut end = ranges.end(range);
     let mut best: Option<Pair> = None;
     'rows: for index in 0..rows.count() - 1 {
         let row = rows.at(index);
         if row.start + row.pages == end {
             range += 1;
-            end = range_end(ranges, range);
+            end = ranges.end(range);
         } else {
             let difference = row.count.abs_diff(rows.at(index + 1).count);
             if difference == 0 {

@@ -7,7 +7,7 @@ ghost use Rattle.region_merge.specs.Merged.{row_end, is_within, merged};
 ghost use Rattle.region_merge.specs.Grouping.{IsMerged};
 
 use damon_types::{Ranges, Row};
-use region_list::{Regions, RowBuf, RowPass, join_rows, range_end};
+use region_list::{Regions, RowBuf, RowPass, join_rows};
 
 /// Merges the rows of a monitor from left to right. Within one range each row is joined to the row
 /// merged so far where their counts differ by at most `threshold` (passes) and they have at most
@@ -23,8 +23,6 @@ pub fn merge_all(regions: &mut Regions, threshold: u32, limit: u32)
     ensures grouping { IsMerged regions.old.ranges threshold limit
         regions.old.rows regions.new.rows }
 {
-    // For its clauses alone: the rows tile their ranges, which are in order.
-    let _count = regions.len();
     if may_join_two(regions.rows(), threshold, limit) {
         regions.remake(&MergePass { threshold, limit });
     }
@@ -66,15 +64,13 @@ impl RowPass for MergePass {
     ghost can_run = { λ pass rows. Unit {0} };
 
     fn run(&self, ranges: &Ranges, rows: &RowBuf, made: &mut RowBuf) {
-        // For its clauses alone: the ranges are in order.
-        let _count = ranges.len();
         if rows.len() == 0 {
             return;
         }
         let mut group = OpenGroup {
             row: rows.next(0),
             range: 0,
-            end: range_end(ranges, 0),
+            end: ranges.end(0),
         };
         let mut index = 1;
         'groups: while index < rows.len() {
@@ -194,7 +190,7 @@ impl OpenGroup {
             × (option_map end_of (slice_get ranges.now.list (self.now.range + 1))
             ≡ Some result.end) }
     {
-        // For its clauses alone: the ranges are in order, and their number is a u32.
+        // For its clauses alone: the number of ranges is a u32.
         let _count = ranges.len();
         if !self.ends_range() {
             return OpenGroup { row: *row, ..*self };
@@ -203,7 +199,7 @@ impl OpenGroup {
         OpenGroup {
             row: *row,
             range,
-            end: range_end(ranges, range),
+            end: ranges.end(range),
         }
     }
 }

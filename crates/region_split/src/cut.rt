@@ -1,4 +1,3 @@
-// Cutting one row.
 ghost use Rattle.std.specs.Prelude.{◌≡◌, ◌+◌, ◌-◌, ◌≤◌, ◌<◌, ◌^◌};
 ghost use Rattle.region_split.specs.Cut.{cut_place as cut_place_of, may_cut as may_cut_at, left_side, right_side};
 

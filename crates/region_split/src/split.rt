@@ -121,7 +121,9 @@ fn push_three_parts(
     requires end { row.start + row.pages < 2 ^ 32 }
     requires room { length made.old.rows + length (three_parts limits count words.0 words.1 row)
         ≤ made.old.cap }
-    ensures rows { made.new ≡ record made.old { rows = made.old.rows ++ three_parts limits count words.0 words.1 row } }
+    ensures rows { made.new ≡ record made.old {
+      rows = made.old.rows ++ three_parts limits count words.0 words.1 row;
+    } }
     ensures count { result ≡ count + length (three_parts limits count words.0 words.1 row) - 1 }
 {
     let (first, second) = words;

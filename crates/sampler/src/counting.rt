@@ -13,8 +13,6 @@ pub fn observe(regions: &mut Regions, picks: &Picks)
     requires small { AllByRecursion (λ r. r.count + 1 < 2 ^ 32) regions.old.rows }
     ensures { regions.new ≡ record regions.old { rows = raised picks.now.bits regions.old.rows } }
 {
-    // For its clauses alone: there is a bit for each pick.
-    let _checks = picks.len();
     // A pass without a hit changes no row, and to see that takes one look at the bits.
     if picks.any_hit() {
         regions.revalue(&Raising { bits: picks.bits() });

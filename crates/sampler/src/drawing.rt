@@ -1,4 +1,3 @@
-// Random words, drawn in order.
 ghost use Rattle.std.specs.Prelude.{◌≡◌, ◌+◌, ◌≤◌, ◌++◌, length, vec_len, vec_capacity};
 ghost use Rattle.sampler.specs.Draws.{drawn, drawn_rest};
 

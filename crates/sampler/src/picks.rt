@@ -103,9 +103,10 @@ impl Picks {
         &self.bits
     }
 
-    /// Whether a check was a hit.
-    pub fn any_hit(&self) -> bool
-        ensures { result ≡ list_any (λ hit. hit) self.now.bits }
+    // Whether a check was a hit.
+    pub(crate) fn any_hit(&self) -> bool
+        ensures any { result ≡ list_any (λ hit. hit) self.now.bits }
+        ensures each { length self.now.bits ≡ length self.now.pages }
     {
         any_of(&self.bits)
     }
@@ -113,7 +114,8 @@ impl Picks {
     /// Records whether the check of pick `k`, which is below the number of picks, was a hit.
     pub fn set(&mut self, k: u32, hit: bool)
         requires { k < length self.old.pages }
-        ensures { self.new ≡ record self.old { bits = slice_set self.old.bits k hit } }
+        ensures bits { self.new ≡ record self.old { bits = slice_set self.old.bits k hit } }
+        ensures fits { k + 1 < 2 ^ 32 }
     {
         self.bits[k as usize] = hit;
     }
@@ -140,6 +142,7 @@ impl Picks {
             } }
         ensures hits { result ≡ loaded_hits (M.marks_of marks) self.old.pages from count }
         ensures few { result ≤ count }
+        ensures fits { from + count < 2 ^ 32 }
     {
         load_bits(&self.pages, &mut self.bits, from, count, marks)
     }
@@ -243,9 +246,10 @@ fn pick_at(regions: &Regions, places: Places<'_>, index: u32, word: u32) -> u32
     requires places { ArePlacesOf regions.now.rows places.starts.now places.sizes.now }
     requires reciprocals { length regions.now.rows ≤ length places.reciprocals.now }
     requires index { index < length regions.now.rows }
-    ensures { (words : List ℕ) → slice_get words index ≡ Some word
+    ensures page { (words : List ℕ) → slice_get words index ≡ Some word
         → picks_of (take (suc index) regions.now.rows) words
         ≡ picks_of (take index regions.now.rows) words ++ result ∷ [] }
+    ensures few { length regions.now.rows < 2 ^ 32 }
 {
     // For its clauses alone: the row has a page, and ends below page 2^32.
     let _row = regions.row(index);
@@ -298,8 +302,6 @@ fn pick_four<R: Rng>(
     ensures rest { R.stream source.new ≡ drawn_rest 4 (R.stream source.old) }
     ensures each { length pages.new ≡ length pages.old }
 {
-    // For its clauses alone: the number of rows is a u32.
-    let _rows = regions.len();
     let first = source.next_u32();
     let second = source.next_u32();
     let third = source.next_u32();

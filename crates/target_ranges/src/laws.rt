@@ -1,5 +1,4 @@
-// Laws of the definitions that the contracts cite, for the proofs of callers. The functions have no
-// bodies.
+// Laws of the definitions that the contracts cite, for the proofs of callers.
 ghost use Rattle.target_ranges.specs.Laws.{ChecksOneMore, HasRoom, KeepsFault, MakesEach, MakesInOrder, MakesWide, MakesWithin};
 
 /// A list that is accepted, with one range more: the longer list is accepted, or rejected for the

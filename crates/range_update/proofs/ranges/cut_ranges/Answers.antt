@@ -2,11 +2,12 @@ use Rattle.std.proofs.Common.{◌+◌, ◌++◌, length, length-append, append_a
 use Rattle.std.proofs.lemmas.List.{append-nil, drop_all}
 use Rattle.damon_types.specs.Ranges.{end_of}
 use Rattle.damon_types.specs.Span.{spans}
+use Rattle.damon_types.proofs.Lemmas.{end_at}
 use Rattle.region_list.specs.Rows.{RowList}
 use Rattle.region_list.specs.Tiling.{Tiling}
 use Rattle.range_update.specs.Updated.{range_pieces, all_pieces}
 use Rattle.region_list.proofs.Lemmas.{ordered_after}
-use Rattle.range_update.proofs.RangeLemmas.{drop_next, end_at}
+use Rattle.range_update.proofs.RangeLemmas.{drop_next}
 use Rattle.range_update.proofs.OrderLemmas.{IsReady, ready_start, ready_next}
 use Rattle.range_update.proofs.SizeLemmas.{all_pieces_few, all_pieces_tiling}
 use Rattle.range_update.proofs.ranges.cut_ranges.Goals as goal

@@ -3,11 +3,10 @@ use Rattle.std.specs.List.{flat_map}
 use Rattle.std.proofs.lemmas.List.{append-nil, drop_all}
 use Rattle.damon_types.specs.Ranges.{page_total, end_of}
 use Rattle.damon_types.specs.Span.{spans}
-use Rattle.damon_types.proofs.Lemmas.{all_at}
+use Rattle.damon_types.proofs.Lemmas.{all_at, end_at}
 use Rattle.region_list.specs.Rows.{RowList}
 use Rattle.region_list.specs.Tiling.{Tiling}
 use Rattle.region_list.specs.Division.{range_rows, rows_from}
-use Rattle.region_list.proofs.TilingLemmas.{end_at}
 use Rattle.region_list.proofs.DivisionLemmas.{drop_next, pages_within, divided_fits, divided_tiling, length-rows_from}
 use Rattle.region_list.proofs.division.divide.Goals as goal
 

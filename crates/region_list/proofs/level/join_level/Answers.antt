@@ -10,7 +10,7 @@ counted b = cond b 1 0
 
 pub moves-init : goal.moves-init
 moves-init c = record {
-  sweep = rw c.at.ensures (sweep_begin _ _ _ _ _ c.len-count.ensures.order c.requires.tiling c.requires.some c.range_end.ensures c.requires.low);
+  sweep = rw c.at.ensures (sweep_begin _ _ _ _ _ c.end.ensures.order c.requires.tiling c.requires.some c.end.ensures.end c.requires.low);
   ahead = omega arith;
   cap = refl;
   within = omega (arith, c.requires.some);

@@ -32,7 +32,7 @@ others-preserved g c =
     let below : i < length rows = omega (arith, c.others-test.true, c.len-rows.ensures.len) in
     let got = drawn-next (length rows) i s here there word.result below kept.rest word.ensures in
     record {
-      pages = picks-next rows (drawn (length rows) s) i (i + 1) c.pick_at.result c.others.pages (set c.others.pages i c.pick_at.result) kept.pages (c.pick_at.ensures (drawn (length rows) s) got) refl (omega (arith, below, kept.each)) (omega arith);
+      pages = picks-next rows (drawn (length rows) s) i (i + 1) c.pick_at.result c.others.pages (set c.others.pages i c.pick_at.result) kept.pages (c.pick_at.ensures.page (drawn (length rows) s) got) refl (omega (arith, below, kept.each)) (omega arith);
       rest = drawn_rest-next i (i + 1) s here there word.result (omega arith) kept.rest word.ensures;
       each = length-set c.others.pages i c.pick_at.result ∙ kept.each;
     }

@@ -38,7 +38,7 @@ returns-clause-pages g c s at so_far =
     let l1 = length-set b0 i c.pick_at.result in
     let l2 = length-set b1 (i + 1) c.pick_at-2.result in
     let l3 = length-set b2 (i + 2) c.pick_at-3.result in
-    let p1 = picks-next rows ws i (i + 1) c.pick_at.result b0 b1 so_far (c.pick_at.ensures ws got0) refl (omega (arith, within, c.requires.each)) (omega arith) in
-    let p2 = picks-next rows ws (i + 1) (i + 2) c.pick_at-2.result b1 b2 p1 (c.pick_at-2.ensures ws got1) refl (omega (arith, within, c.requires.each, l1)) (omega arith) in
-    let p3 = picks-next rows ws (i + 2) (i + 3) c.pick_at-3.result b2 b3 p2 (c.pick_at-3.ensures ws got2) refl (omega (arith, within, c.requires.each, l1, l2)) (omega arith) in
-    picks-next rows ws (i + 3) (i + 4) c.pick_at-4.result b3 b4 p3 (c.pick_at-4.ensures ws got3) refl (omega (arith, within, c.requires.each, l1, l2, l3)) (omega arith)
+    let p1 = picks-next rows ws i (i + 1) c.pick_at.result b0 b1 so_far (c.pick_at.ensures.page ws got0) refl (omega (arith, within, c.requires.each)) (omega arith) in
+    let p2 = picks-next rows ws (i + 1) (i + 2) c.pick_at-2.result b1 b2 p1 (c.pick_at-2.ensures.page ws got1) refl (omega (arith, within, c.requires.each, l1)) (omega arith) in
+    let p3 = picks-next rows ws (i + 2) (i + 3) c.pick_at-3.result b2 b3 p2 (c.pick_at-3.ensures.page ws got2) refl (omega (arith, within, c.requires.each, l1, l2)) (omega arith) in
+    picks-next rows ws (i + 3) (i + 4) c.pick_at-4.result b3 b4 p3 (c.pick_at-4.ensures.page ws got3) refl (omega (arith, within, c.requires.each, l1, l2, l3)) (omega arith)

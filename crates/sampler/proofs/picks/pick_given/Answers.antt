@@ -14,6 +14,6 @@ loop-index-preserved c =
     let below : i < length rows = omega (arith, c.loop-index-test.true, c.len-index-end.ensures.len) in
     let got = slice_get-get_or ws i 0 (omega (arith, below, c.requires.words)) in
     record {
-      pages = picks-next rows ws i (i + 1) p.result c.loop-index.pages (set c.loop-index.pages i p.result) kept.pages (p.ensures ws got) refl (omega (arith, below, kept.each)) (omega arith);
+      pages = picks-next rows ws i (i + 1) p.result c.loop-index.pages (set c.loop-index.pages i p.result) kept.pages (p.ensures.page ws got) refl (omega (arith, below, kept.each)) (omega arith);
       each = length-set c.loop-index.pages i p.result ∙ kept.each;
     }

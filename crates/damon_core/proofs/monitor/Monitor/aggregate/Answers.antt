@@ -4,12 +4,11 @@ use Rattle.std.proofs.lemmas.List.Elements.{recursion_from_All}
 use Rattle.damon_types.specs.declared.row.Row.{Row}
 use Rattle.damon_types.specs.Ranges.{page_total}
 use Rattle.damon_types.specs.Space.{pages_of}
-use Rattle.damon_types.specs.Span.{spans}
 use Rattle.damon_types.specs.Within.{AreWithin}
 use Rattle.live_commit.specs.declared.phase.Phase.{Phase}
 use Rattle.live_commit.specs.declared.phase.Phase.TheVariants.{Due}
-use Rattle.region_list.specs.Regions.{RegionList}
-use Rattle.region_list.specs.Tiles.{Tiles}
+use Rattle.region_list.specs.Regions.{RegionList, IsRegionList}
+use Rattle.region_list.proofs.Lemmas.{tiles}
 use Rattle.scheme_engine.specs.Engine.{EngineValue}
 use Rattle.scheme_engine.specs.Kept.{AreTiled, IsRunIn}
 use Rattle.scheme_engine.specs.Served.{Served, slots_served}
@@ -85,9 +84,8 @@ invariant_of-self c =
     let within = subst (AreWithin i.space) (sym (ap (λ (s : SamplingView). s.regions.ranges) now)) v.ranges_in in
     let ranges_in = subst (AreWithin i.space) (sym (ap (λ (x : RegionList). x.ranges) served)) within in
     let tiled = subst AreTiled c.regions-2.ensures.regions (tiled_by_len _ c.len-merged.result len.len len.few len.unit len.order len.tiling) in
-    let unit = subst (λ (x : RegionList). 1 ≤ x.unit) seen c.len-rows.ensures.unit in
-    let tiles = subst (λ (x : RegionList). Tiles x.ranges (spans x.rows) x.unit) seen c.len-rows.ensures.tiles in
-    let rows = rows_in i.space next.ranges next.unit next.rows unit ranges_in tiles in
+    let kept = subst IsRegionList seen c.rows.ensures.kept in
+    let rows = rows_in i.space next.ranges next.unit next.rows kept.unit ranges_in (tiles _ _ _ kept.unit kept.order kept.tiling) in
     let told = c.rows.ensures.rows ∙ ap (λ (x : RegionList). x.rows) seen in
     let t : ℕ = i.clock.ticks - i.clock.since in
     let bounded = slots_bounded 0 i.attrs.aggr i.clock.ticks t i.space r e.slots tiled within c.targets-targets.ensures.sound v.serving.served in

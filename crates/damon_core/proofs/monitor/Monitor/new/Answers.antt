@@ -31,8 +31,8 @@ pub new-requires : goal.new-requires
 new-requires c =
     let v = value_of c.args.setup.now in
     let sound = c.args.setup.now.sound in
-    let made : c.in_ok-regions.regions ≡ (opening_core v).regions = c.in_ok-regions.ensures in
-    let tiling = subst (λ (x : RegionList). Tiling x.unit x.ranges (spans x.rows)) made c.len-rows.ensures.tiling in
+    let made : c.in_ok-regions.regions ≡ (opening_core v).regions = c.in_ok-regions.ensures.regions in
+    let tiling = subst (λ (x : RegionList). Tiling x.unit x.ranges (spans x.rows)) made c.in_ok-regions.ensures.kept.tiling in
     let wide = recursion_from_All (λ (g : Range). v.unit ≤ g.pages) v.ranges sound.wide in
     let some = tiling_some v.unit v.ranges (spans ((opening_core v).regions.rows)) sound.unit_some sound.ranges_some wide tiling in
     record {
@@ -44,7 +44,7 @@ pub invariant_of-result : goal.invariant_of-result
 invariant_of-result c =
     let v = value_of c.args.setup.now in
     let sound = c.args.setup.now.sound in
-    let made : c.in_ok-regions.regions ≡ (opening_core v).regions = c.in_ok-regions.ensures in
+    let made : c.in_ok-regions.regions ≡ (opening_core v).regions = c.in_ok-regions.ensures.regions in
     subst (λ x. IsMonitor c.in_ok-space.space v.attrs x (record { ticks = 0; since = 0 }) (record { checks = 0; hits = 0 }) c.in_ok-report.report.value c.in_ok-engine.engine.value) (sym c.in_ok-sampling.ensures) (record {
       attrs_sound = sound.attrs;
       max = ap (λ (x : RegionList). x.max) made;
@@ -67,7 +67,7 @@ pub returns-clause-opening : goal.returns-clause-opening
 returns-clause-opening c =
     let v = value_of c.args.setup.now in
     let space = c.in_ok-space.ensures.cases in
-    let made : c.in_ok-regions.regions ≡ (opening_core v).regions = c.in_ok-regions.ensures in
+    let made : c.in_ok-regions.regions ≡ (opening_core v).regions = c.in_ok-regions.ensures.regions in
     let report = ap report_value c.in_ok-report.ensures in
     let bits = ap (λ (s : SamplingView). s.bits) c.in_ok-sampling.ensures in
     let core : List Target → SamplingView → ReportValue → Core = λ ts s r. (shown v.version ts v.attrs s (record { ticks = 0; since = 0 }) (record { checks = 0; hits = 0 }) r c.in_ok-engine.engine.value.slots).core in

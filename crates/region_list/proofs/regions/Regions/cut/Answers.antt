@@ -16,13 +16,13 @@ pub overflow_sub-second : goal.overflow_sub-second
 overflow_sub-second c =
     let r = c.args.self.now in
     let is : row_at r.rows c.args.index ≡ c.row-row.result = get_or_from_slice_get r.rows c.args.index c.row-row.result no_row c.row-row.ensures.row in
-    omega (arith, c.requires.second, c.len-count.ensures.unit, ap (λ (x : Row). x.pages) is)
+    omega (arith, c.requires.second, c.row-row.ensures.kept.unit, ap (λ (x : Row). x.pages) is)
 
 pub overflow_add-second : goal.overflow_add-second
 overflow_add-second c =
     let r = c.args.self.now in
     let is : row_at r.rows c.args.index ≡ c.row-row.result = get_or_from_slice_get r.rows c.args.index c.row-row.result no_row c.row-row.ensures.row in
-    omega (arith, c.requires.second, c.len-count.ensures.unit, c.row-row.ensures.end, ap (λ (x : Row). x.pages) is)
+    omega (arith, c.requires.second, c.row-row.ensures.kept.unit, c.row-row.ensures.end, ap (λ (x : Row). x.pages) is)
 
 pub put_two-requires-clause-tiling : goal.put_two-requires-clause-tiling
 put_two-requires-clause-tiling c =
@@ -30,9 +30,9 @@ put_two-requires-clause-tiling c =
     let i = c.args.index in
     let at = c.args.pages in
     let is : row_at r.rows i ≡ c.row-row.result = get_or_from_slice_get r.rows i c.row-row.result no_row c.row-row.ensures.row in
-    let low : at ≤ (row_at r.rows i).pages = omega (arith, c.requires.second, c.len-count.ensures.unit) in
+    let low : at ≤ (row_at r.rows i).pages = omega (arith, c.requires.second, c.row-row.ensures.kept.unit) in
     subst (λ x. Tiling r.unit r.ranges (spans (with_cut r i at x).rows)) is
-    (refined_tiling r.unit r.ranges (spans r.rows) (spans (cut_after r.rows i at)) c.len-count.ensures.tiling
+    (refined_tiling r.unit r.ranges (spans r.rows) (spans (cut_after r.rows i at)) c.row-row.ensures.kept.tiling
     (cut_refined r.unit i at r.rows c.requires.within c.requires.first c.requires.second low))
 
 pub returns : goal.returns

@@ -19,7 +19,7 @@ join_rows-joined-requires-clause-few c =
     let first : row_at r.rows i ≡ c.row-first.result = get_or_from_slice_get r.rows i c.row-first.result no_row c.row-first.ensures.row in
     let second : row_at r.rows (i + 1) ≡ c.row-second.result = get_or_from_slice_get r.rows (i + 1) c.row-second.result no_row c.row-second.ensures.row in
     let range : in_one_range r.ranges (row_at r.rows i) (row_at r.rows (suc i)) ≡ true = subst (λ n. in_one_range r.ranges (row_at r.rows i) (row_at r.rows n) ≡ true) (add-one i) c.requires.range in
-    let pages = pages_joined r.unit i r.ranges r.rows c.len-count.ensures.unit c.len-count.ensures.order c.len-count.ensures.tiling c.requires.pair range in
+    let pages = pages_joined r.unit i r.ranges r.rows c.row-first.ensures.kept.unit c.row-first.ensures.kept.order c.row-first.ensures.kept.tiling c.requires.pair range in
     omega (arith, pages, ap (λ (x : Row). x.pages) first, ap (λ (x : Row). x.pages) second, ap (λ n. (row_at r.rows n).pages) (add-one i))
 
 pub put_one-requires-clause-tiling : goal.put_one-requires-clause-tiling
@@ -30,7 +30,7 @@ put_one-requires-clause-tiling c =
     let second : row_at r.rows (i + 1) ≡ c.row-second.result = get_or_from_slice_get r.rows (i + 1) c.row-second.result no_row c.row-second.ensures.row in
     let range : in_one_range r.ranges (row_at r.rows i) (row_at r.rows (suc i)) ≡ true = subst (λ n. in_one_range r.ranges (row_at r.rows i) (row_at r.rows n) ≡ true) (add-one i) c.requires.range in
     subst (λ rs. Tiling r.unit r.ranges (spans rs)) (joined_is i r.rows c.row-first.result c.row-second.result c.join_rows-joined.result c.requires.pair first second c.join_rows-joined.ensures)
-    (tiles_joined r.unit i r.ranges r.rows c.len-count.ensures.unit c.len-count.ensures.order c.len-count.ensures.tiling c.requires.pair range)
+    (tiles_joined r.unit i r.ranges r.rows c.row-first.ensures.kept.unit c.row-first.ensures.kept.order c.row-first.ensures.kept.tiling c.requires.pair range)
 
 pub returns : goal.returns
 returns c =

@@ -23,7 +23,7 @@ invariant_of-self c =
     let i = c.args.index in
     let x = c.args.row in
     let within : i + 1 < length rows = omega (arith, c.requires.pair, ap (λ (v : RegionList). length v.rows) c.self.view_is) in
-    let is = put i x c.self.inside.rows c.remove.new.self c.set.new.self within c.remove.ensures c.set.ensures in
+    let is = put i x c.self.inside.rows c.remove.new.self c.set.new.self within c.remove.ensures c.set.ensures.set in
     let new : c.set.new.self.rows ≡ take i rows ++ x ∷ drop (i + 2) rows = ap (λ (b : RowList). b.rows) is in
     let tiling = subst (λ (v : RegionList). Tiling v.unit v.ranges (spans (take i v.rows ++ x ∷ drop (i + 2) v.rows))) (sym c.self.view_is) c.requires.tiling in (
       record {
@@ -47,5 +47,5 @@ returns c =
     let x = c.args.row in
     let old : RegionList = record { ranges = c.self.inside.ranges.list; rows = rows; unit = c.self.inside.unit; cap = c.self.inside.cap; max = c.self.inside.max } in
     let within : i + 1 < length rows = omega (arith, c.requires.pair, ap (λ (v : RegionList). length v.rows) c.self.view_is) in
-    let is = put i x c.self.inside.rows c.remove.new.self c.set.new.self within c.remove.ensures c.set.ensures in
+    let is = put i x c.self.inside.rows c.remove.new.self c.set.new.self within c.remove.ensures c.set.ensures.set in
     ap (λ (b : RowList). record old { rows = b.rows }) is ∙ ap (with_one i x) c.self.view_is

@@ -1,6 +1,6 @@
-use Rattle.std.proofs.Common.{◌<◌, length, refl, ap, arith}
+use Rattle.std.proofs.Common.{◌<◌, length, refl, ap, subst, arith}
 use Rattle.std.proofs.lemmas.Option.{slice_get_read}
-use Rattle.region_list.specs.Regions.{RegionList}
+use Rattle.region_list.specs.Regions.{RegionList, IsRegionList}
 use Rattle.region_list.proofs.TilingLemmas.{row_size, row_end}
 use Rattle.region_list.proofs.regions.Regions.row.Goals as goal
 
@@ -20,3 +20,6 @@ returns-clause-end c =
     let here : c.args.index < length rows = omega (arith, c.requires, ap (λ (r : RegionList). length r.rows) c.self.view_is) in
     let is = c.get.ensures in
     row_end _ _ rows c.args.index _ c.self.invariant.0.order c.self.invariant.0.tiling is
+
+pub returns-clause-kept : goal.returns-clause-kept
+returns-clause-kept c = subst IsRegionList c.self.view_is c.self.invariant.0

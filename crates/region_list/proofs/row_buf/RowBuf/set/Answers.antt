@@ -9,8 +9,8 @@ invariant_of-self c =
     let new = columns_set c.args.index c.args.row _ _ _ _ _ _ _ _ _ _ _ _ _ c.self.invariant.0 refl refl refl refl refl refl in
     (columns_are _ _ _ _ _ _ _ new, search rules, search rules, search rules, search rules, search rules, search rules, search rules, search rules)
 
-pub returns : goal.returns
-returns c =
+pub returns-clause-set : goal.returns-clause-set
+returns-clause-set c =
     let new = columns_set c.args.index c.args.row _ _ _ _ _ _ _ _ _ _ _ _ _ c.self.invariant.0 refl refl refl refl refl refl in
     let changed : RowList → RowList = λ b. record b { rows = set b.rows c.args.index c.args.row } in
     ap (λ rs. record { rows = rs; cap = c.self.inside.cap }) (zipped_is _ _ _ _ _ _ _ new) ∙ ap changed c.self.view_is

@@ -16,7 +16,7 @@ groups-init c =
     let gs = c.args.ranges.now.list in
     let rest = c.next.ensures.rest in
     record {
-      here = begins_first _ _ _ _ c.len-count.ensures.order (subst (λ rs. Tiling 1 gs (spans rs)) rest c.requires.tiling) c.range_end.ensures;
+      here = begins_first _ _ _ _ c.end.ensures.order (subst (λ rs. Tiling 1 gs (spans rs)) rest c.requires.tiling) c.end.ensures.end;
       so_far = ap (λ rs. rs ++ merged gs c.args.self.now.threshold c.args.self.now.limit (c.next.result ∷ drop 1 c.args.rows.now.rows)) c.requires.empty
           ∙ ap (merged gs c.args.self.now.threshold c.args.self.now.limit) (sym rest);
       cap = refl;
@@ -26,8 +26,8 @@ pub joins-requires : goal.joins-requires
 joins-requires c =
     let here = begins_row _ _ _ _ _ _ _ c.next-row.ensures.rest c.groups.invariant.here in
     record {
-      end = begins_fits _ _ _ _ _ c.len-count.ensures.order here;
-      pages = λ on. omega (arith, begins_fits _ _ _ _ _ c.len-count.ensures.order (begins_joined _ _ _ _ _ _ here on));
+      end = begins_fits _ _ _ _ _ c.end.ensures.order here;
+      pages = λ on. omega (arith, begins_fits _ _ _ _ _ c.end.ensures.order (begins_joined _ _ _ _ _ _ here on));
     }
 
 pub join_rows-group-requires-clause-some : goal.join_rows-group-requires-clause-some
@@ -40,15 +40,15 @@ push-requires c =
     omega (arith, ap length c.groups.invariant.so_far, length-append c.groups.made.rows rest, (length-merged_from c.args.self.now.threshold c.args.self.now.limit c.args.ranges.now.list c.groups.group.row left).0, c.requires.room, c.groups.invariant.cap)
 
 pub next_group-begun-requires-clause-end : goal.next_group-begun-requires-clause-end
-next_group-begun-requires-clause-end c = begins_fits _ _ _ _ _ c.len-count.ensures.order c.groups.invariant.here
+next_group-begun-requires-clause-end c = begins_fits _ _ _ _ _ c.end.ensures.order c.groups.invariant.here
 
 pub next_group-begun-requires-clause-next : goal.next_group-begun-requires-clause-next
-next_group-begun-requires-clause-next c = λ over. (begins_next _ _ _ _ _ _ c.len-count.ensures.order (begins_row _ _ _ _ _ _ _ c.next-row.ensures.rest c.groups.invariant.here) over).1
+next_group-begun-requires-clause-next c = λ over. (begins_next _ _ _ _ _ _ c.end.ensures.order (begins_row _ _ _ _ _ _ _ c.next-row.ensures.rest c.groups.invariant.here) over).1
 
 pub first_pair-first-requires-clause-here : goal.first_pair-first-requires-clause-here
 first_pair-first-requires-clause-here c =
     let gs = c.args.ranges.now.list in
-    let order = c.len-count.ensures.order in
+    let order = c.end.ensures.order in
     let begun = c.next_group-begun in
     let here = begins_row _ _ _ _ _ _ _ c.next-row.ensures.rest c.groups.invariant.here in
     subst (λ rs. BeginsIn gs rs begun.result.range begun.result.end) (sym c.next-row.ensures.rest) (begins_group _ _ _ _ _ _ _ _ order here begun.ensures.same begun.ensures.next)
@@ -56,7 +56,7 @@ first_pair-first-requires-clause-here c =
 pub append_rows-requires-clause-room : goal.append_rows-requires-clause-room
 append_rows-requires-clause-room c =
     let gs = c.args.ranges.now.list in
-    let order = c.len-count.ensures.order in
+    let order = c.end.ensures.order in
     let t = c.args.self.now.threshold in
     let limit = c.args.self.now.limit in
     let rows = c.args.rows.now.rows in
@@ -76,7 +76,7 @@ append_rows-requires-clause-room c =
 pub groups-preserved-then-joins : goal.groups-preserved-then-joins
 groups-preserved-then-joins c =
     let gs = c.args.ranges.now.list in
-    let order = c.len-count.ensures.order in
+    let order = c.end.ensures.order in
     let rest = c.next-row.ensures.rest in
     let here = begins_row _ _ _ _ _ _ _ rest c.groups.invariant.here in
     let test : c.joins.result ≡ may_join gs c.args.self.now.threshold c.args.self.now.limit c.groups.group.row c.next-row.result = c.joins.ensures ∙ sym (may_join_is _ _ _ _ _ _ _ _ order here) in
@@ -89,7 +89,7 @@ groups-preserved-then-joins c =
 pub groups-preserved : goal.groups-preserved
 groups-preserved c =
     let gs = c.args.ranges.now.list in
-    let order = c.len-count.ensures.order in
+    let order = c.end.ensures.order in
     let t = c.args.self.now.threshold in
     let limit = c.args.self.now.limit in
     let rows = c.args.rows.now.rows in
