@@ -1,6 +1,6 @@
 -- Candidates that come after enough others get no share, and the shares of the others do not depend on them.
 use Rattle.std.proofs.Common.{◌≡◌, ℕ, suc, ◌<◌, ◌≤◌, Bool, true, false, List, [], ◌∷◌, ◌++◌, Option, Some, length, map, refl, sym, ap, ◌∙◌, arith}
-use Rattle.std.specs.Prelude.{slice_index_or, filter, not, nat_lt, sum_by, All, ◌≢◌}
+use Rattle.std.specs.Prelude.{slice_index_or, filter, not, nat_lt, sum_by, All, ◌≢◌, if◌then◌else◌}
 use Rattle.std.specs.List.{AllPairs}
 use Rattle.std.proofs.lemmas.Bool.Decides.{Decides-eqb, nat_tests}
 use Rattle.std.proofs.lemmas.List.{append-nil, get_or-map, length-map, map-append}
@@ -23,6 +23,15 @@ use Rattle.priority.proofs.TakenLemmas.{taken_is}
 use Rattle.priority.proofs.WalkLemmas.{passing_of}
 
 -- ---- candidates of which some are dropped
+
+-- what is dropped in any case may be dropped before
+pub filter_twice : {X : Type 0} (p q : X → Bool) (xs : List X) → ((x : X) → p x ≡ false → q x ≡ false) → filter q (filter p xs) ≡ filter q xs
+filter_twice p q [] none = refl
+filter_twice p q (x ∷ xs) none = step (p x) (none x) (filter_twice p q xs none)
+  where
+    step : (b : Bool) → (b ≡ false → q x ≡ false) → filter q (filter p xs) ≡ filter q xs → filter q (if b then x ∷ filter p xs else filter p xs) ≡ filter q (x ∷ xs)
+    step true other rest = ap (λ ys. if q x then x ∷ ys else ys) rest
+    step false other rest = rw (other refl) rest
 
 starts_apart : (cs : List Candidate) → DistinctStarts cs → AllPairs (λ (r s : Candidate). r.start ≢ s.start) cs
 starts_apart cs distinct i j d before within =

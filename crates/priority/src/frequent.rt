@@ -3,7 +3,7 @@ ghost use Rattle.std.specs.Prelude.{◌≡◌, ◌+◌, ◌≤◌, ℕ, max, sli
 ghost use Rattle.priority.specs.Frequent.{AreByAge, AreFrequent};
 
 use crate::scoring::{MAX_SCORE, Scale, preferred, weighted_mean};
-use damon_types::{Prefer, Weights};
+use damon_types::{Prefer, Scheme, Weights};
 use reciprocal::Reciprocal;
 
 // The number of ages that make a difference to a score.
@@ -28,12 +28,12 @@ impl FrequentScores {
         rows: u32,
         pages: &Scale,
         counts: &Scale,
-        weights: Weights,
-        prefer: Prefer,
+        scheme: &Scheme,
         by_sum: &Reciprocal,
     ) -> FrequentScores
-        requires { by_sum.now ≡ max (weights.size + weights.count + weights.age) 1 }
-        ensures { AreFrequent pages.now counts.now weights prefer result }
+        requires { by_sum.now ≡ max
+            (scheme.now.weights.size + scheme.now.weights.count + scheme.now.weights.age) 1 }
+        ensures { AreFrequent pages.now counts.now scheme.now.weights scheme.now.prefer result }
     {
         if rows < MANY_ROWS {
             return FrequentScores {
@@ -45,7 +45,7 @@ impl FrequentScores {
         FrequentScores {
             pages: pages.least(),
             count: counts.least(),
-            by_age: scores_by_age(weights, prefer, by_sum),
+            by_age: scores_by_age(scheme.weights, scheme.prefer, by_sum),
         }
     }
 }

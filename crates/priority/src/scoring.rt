@@ -1,4 +1,4 @@
-ghost use Rattle.std.specs.Prelude.{◌≡◌, ◌+◌, ◌≤◌, ◌<◌, ◌*◌, ◌^◌, max};
+ghost use Rattle.std.specs.Prelude.{◌≡◌, ◌+◌, ◌≤◌, ◌<◌, ◌*◌, ◌^◌, max, min};
 ghost use Rattle.priority.specs.Frequent.{AreFrequent};
 ghost use Rattle.priority.specs.Score.{preferred, scaled, score_by, score_of, weighted_mean};
 
@@ -56,16 +56,15 @@ impl Scorer {
         } }
     {
         let weights = scheme.weights;
-        let prefer = scheme.prefer;
         let pages = Scale::of(total);
         let counts = Scale::of(aggr);
         let by_sum = Reciprocal::of(sum_of(weights).max(1));
-        let frequent = FrequentScores::of(rows, &pages, &counts, weights, prefer, &by_sum);
+        let frequent = FrequentScores::of(rows, &pages, &counts, scheme, &by_sum);
         Scorer {
             pages,
             counts,
             weights,
-            prefer,
+            prefer: scheme.prefer,
             by_sum,
             frequent,
         }
@@ -84,18 +83,20 @@ impl Scorer {
         if (row.pages < self.frequent.pages) & (row.count < self.frequent.count) {
             return u32::from(self.frequent.by_age[row.age.min(MAX_SCORE) as usize]);
         }
-        self.score_of_parts(row)
+        self.score_of_parts(row.pages, row.count, row.age)
     }
 
-    // The score of any row. It stands by itself, so that a caller's loop keeps its values in registers.
+    // The score of a row with these pages, this count and this age. It stands by itself and takes numbers, so
+    // that a caller's loop keeps its values in registers.
     #[inline(never)]
-    fn score_of_parts(&self, row: &Row) -> u32
-        ensures exact { result ≡ score_by self.now row.now }
+    fn score_of_parts(&self, pages: u32, count: u32, age: u32) -> u32
+        ensures exact { result ≡ weighted_mean self.now.weights (scaled pages self.now.total)
+            (preferred self.now.prefer (scaled count self.now.aggr)) (min age MAX_SCORE) }
         ensures most { result ≤ MAX_SCORE }
     {
-        let size = self.pages.scaled(row.pages);
-        let count = preferred(self.prefer, self.counts.scaled(row.count));
-        let age = row.age.min(MAX_SCORE);
+        let size = self.pages.scaled(pages);
+        let count = preferred(self.prefer, self.counts.scaled(count));
+        let age = age.min(MAX_SCORE);
         weighted_mean(self.weights, &self.by_sum, size, count, age)
     }
 }

@@ -33,8 +33,19 @@ pub(crate) fn drop_late(items: &mut Vec<Candidate>, left: u64) -> bool
     let Some(last) = last_within(items, &sums, left) else {
         return exceeds;
     };
-    items.retain(|candidate| !last.is_before(candidate));
+    keep_up_to(items, &last);
     exceeds
+}
+
+// Drops the candidates that come after this one. Mostly the score decides: so each takes one test, and only
+// those that are left take the others. No branch depends on a test, which would often be predicted wrongly.
+fn keep_up_to(items: &mut Vec<Candidate>, last: &Candidate)
+    ensures items { items.new.items ≡ up_to last.now items.old.items }
+    ensures len { length items.new.items ≤ length items.old.items }
+    ensures capacity { vec_capacity items.new ≡ vec_capacity items.old }
+{
+    items.retain(|candidate| candidate.score >= last.score);
+    items.retain(|candidate| !last.is_before(candidate));
 }
 
 // The passing pages of the candidates of each score.

@@ -1,5 +1,5 @@
 -- Where rows lie: they do not overlap, and each is found by its first page.
-use Rattle.std.proofs.Common.{◌≡◌, ℕ, zero, suc, ◌+◌, ◌≤◌, ◌^◌, ◌<◌, Bool, true, false, List, [], ◌∷◌, ◌++◌, Some, length, get_or, refl, sym, ap, ◌∙◌, subst, arith}
+use Rattle.std.proofs.Common.{◌≡◌, ℕ, zero, suc, ◌+◌, ◌≤◌, ◌<◌, Bool, true, false, List, [], ◌∷◌, ◌++◌, Some, length, get_or, refl, sym, ap, ◌∙◌, subst, arith}
 use Rattle.std.specs.Prelude.{◌==◌, Any, find, position, slice_get}
 use Rattle.std.specs.List.{AllByRecursion, position_or_len}
 use Rattle.std.proofs.lemmas.Bool.Decides.{nat_tests}
@@ -132,23 +132,18 @@ row_by_start rows i s page ascend at is =
         let two = span_read rows i within in
         grind (arith, nat_tests, start, ap (λ (u : Span). u.start) one, ap (λ (u : Span). u.pages) one, ap (λ (u : Span). u.start) two)
 
--- a range in order ends below page 2^32
-end_at : (t p : ℕ) (gs : List Range) (i : ℕ) (g : Range) → OrderedFrom t p gs → slice_get gs i ≡ Some g → (1 ≤ g.pages) × (end_of g < 2 ^ 32)
-end_at t p [] i g order is = absurd (cc is)
-end_at t p (h ∷ gs) zero g order is = let e : h ≡ g = cc in subst (λ x. (1 ≤ x.pages) × (end_of x < 2 ^ 32)) e (order.2.pages, order.2.end)
-end_at t p (h ∷ gs) (suc i) g order is = end_at h.target (end_of h) gs i g order.3 is
-
--- and so does a row that lies in one
-pub held_end : (gs : List Range) (s : Span) → InOrder gs → Any (LiesIn s) gs → s.start + s.pages < 2 ^ 32
-held_end gs s order any =
-    omega (arith, any.4.to, end_at 0 0 gs any.0 any.1 order (slice_get_read gs (length gs) any.0 any.1 refl any.2 (sym any.3)))
+-- a range in order has a page
+pages_at : (t p : ℕ) (gs : List Range) (i : ℕ) (g : Range) → OrderedFrom t p gs → slice_get gs i ≡ Some g → 1 ≤ g.pages
+pages_at t p [] i g order is = absurd (cc is)
+pages_at t p (h ∷ gs) zero g order is = let e : h ≡ g = cc in subst (λ x. 1 ≤ x.pages) e order.2.pages
+pages_at t p (h ∷ gs) (suc i) g order is = pages_at h.target (end_of h) gs i g order.3 is
 
 -- where a row lies in a range, the ranges have a page
 pub some_pages : (gs : List Range) (s : Span) → InOrder gs → Any (LiesIn s) gs → 1 ≤ page_total gs
 some_pages gs s order any =
     let one = get_or-le-sum_by (λ (g : Range). g.pages) gs any.0 any.1 any.2 in
-    let pages = end_at 0 0 gs any.0 any.1 order (slice_get_read gs (length gs) any.0 any.1 refl any.2 (sym any.3)) in
-    omega (arith, one, pages.0, ap (λ (g : Range). g.pages) any.3)
+    let pages = pages_at 0 0 gs any.0 any.1 order (slice_get_read gs (length gs) any.0 any.1 refl any.2 (sym any.3)) in
+    omega (arith, one, pages, ap (λ (g : Range). g.pages) any.3)
 
 -- each row lies in a range
 pub row_held : (gs : List Range) (rows : List Row) (i : ℕ) → AllByRecursion (λ s. Any (LiesIn s) gs) (spans rows) → i < length rows → Any (LiesIn (span_of (row_at rows i))) gs

@@ -10,6 +10,7 @@ ghost use Rattle.scheme_filter.specs.RangeRuns.{AreRunsOf};
 ghost use Rattle.priority.specs.Score.{score_by, score_of};
 ghost use Rattle.scheme_engine.specs.Candidates.{candidate_of, candidates_of, matching_rows};
 ghost use Rattle.scheme_engine.specs.InContext.{passes_in};
+ghost use Rattle.scheme_engine.specs.Kept.{AreTiled};
 
 use crate::pages::ServedScheme;
 use damon_types::{Ranges, Row};
@@ -38,6 +39,8 @@ pub(crate) fn gather(served: &ServedScheme, regions: &Regions, candidates: &mut 
           regions.now.rows;
     } }
     ensures tried { result ≡ matching_rows served.now.scheme.now regions.now.rows }
+    ensures few { length candidates.new.list ≤ regions.now.cap }
+    ensures tiled { AreTiled regions.now }
 {
     candidates.clear();
     let ranges = regions.ranges();

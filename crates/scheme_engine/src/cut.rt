@@ -29,8 +29,6 @@ fn cut(part: Part, regions: &mut Regions)
     requires { IsPartOf regions.old.rows part }
     ensures { regions.new ≡ record regions.old { rows = rows_cut regions.old part } }
 {
-    // For its clauses alone: each row has a page.
-    let _count = regions.len();
     let row = regions.row(part.index);
     let unit = regions.unit();
     if regions.room() > 0 && part.pages >= unit && row.pages - part.pages >= unit {

@@ -107,8 +107,6 @@ fn take_passing(
         candidate.now.share (span_of row.now) }
     ensures most { result ≤ row.now.pages }
 {
-    // For its clauses alone: the row ends below page 2^32.
-    let _count = ranges.len();
     let mut runs = PassRuns::new();
     passing(&served.scheme.filters, served.space, ranges, row, &mut runs);
     let end = take_pages(served.number, candidate, runs.as_slice(), applied);

@@ -114,8 +114,6 @@ fn run_scheme(
     ensures within { IfSome left (λ most. result.chosen.taken ≤ most) }
     ensures cap { candidates.new.cap ≡ candidates.old.cap }
 {
-    // For its clauses alone: there are at most `cap` rows, and they lie apart.
-    let _count = regions.len();
     let tried = gather(served, regions, candidates);
     let chosen = candidates.choose(left);
     let part = apply(served, candidates, regions, applied);

@@ -181,6 +181,14 @@ count_is passes near s n from to longest =
 pub count_few : (passes : ℕ → Bool) (s n : ℕ) → length (filter passes (range_with_len s n)) ≤ n
 count_few passes s n = omega (arith, length-filter passes (range_with_len s n), count_by-le-length passes (range_with_len s n), length-range_with_len s n)
 
+-- where there are no runs, no page passes
+pub none_pass : (passes : ℕ → Bool) (near : RunsWithin) (s n : ℕ) → length near.runs ≡ 0 → near.from ≤ s → s + n ≤ near.to → AreRunsOf passes near → 0 ≡ length (filter passes (range_with_len s n))
+none_pass passes near s n none from to longest = by near.runs none ∙ count_is passes near s n from to longest
+  where
+    by : (runs : List Run) → length runs ≡ 0 → 0 ≡ sum_by (shared_of s (s + n)) runs
+    by [] empty = refl
+    by (r ∷ rs) empty = absurd (omega (arith, empty))
+
 count_all : (n s : ℕ) → count_by (λ p. true) (range_with_len s n) ≡ n
 count_all zero s = refl
 count_all (suc n) s = omega (arith, count-cons (λ p. true) s n, count_all n (s + 1))

@@ -79,6 +79,15 @@ impl RangeRuns {
         self.first.from <= start && end <= self.first.to
     }
 
+    // Whether there are no runs, and the pages from `start` to before `end` lie where there are none.
+    fn has_none(&self, start: u32, end: u32) -> bool
+        ensures none { result ≡ true → length self.now.runs ≡ 0 }
+        ensures from { result ≡ true → self.now.from ≤ start }
+        ensures to { result ≡ true → end ≤ self.now.to }
+    {
+        self.runs.len() == 0 && self.from <= start && end <= self.to
+    }
+
     // How many pages of the runs are among those from `start` to before `end`.
     fn count(&self, start: u32, end: u32) -> u32
         requires ends { All (λ r. run_end r < 2 ^ 32) self.now.runs }
@@ -117,35 +126,40 @@ pub fn count_passing(
     let _count = ranges.len();
     let start = row.start;
     let end = start + row.pages;
-    // Mostly all pages of a row pass, and a range has one run.
+    // Mostly all pages of a row pass or none does, and a range has at most one run.
     if near.is_in_first(start, end) {
         return row.pages;
     }
+    if near.has_none(start, end) {
+        return 0;
+    }
+    // Without the last count, which no filter looks at, a caller's loop need not load it.
+    let row = Row { last: 0, ..*row };
     count_apart(filters, space, ranges, row, near)
 }
 
-// The same for a row that is not in the first run of `near`. It stands by itself, so that a caller's loop
-// keeps its values in registers.
+// The same for any row. It stands by itself and takes the row by value, so that a caller's loop keeps its
+// values in registers.
 #[inline(never)]
 fn count_apart(
     filters: &Filters,
     space: &Space,
     ranges: &Ranges,
-    row: &Row,
+    row: Row,
     near: &mut RangeRuns,
 ) -> u32
     requires within { AreWithin space.now ranges.now.list }
-    requires held { Any (LiesIn (span_of row.now)) ranges.now.list }
+    requires held { Any (LiesIn (span_of row)) ranges.now.list }
     requires near { AreRunsOf (passes filters.now space.now ranges.now.list) near.old }
     ensures count { result ≡ length (filter (passes filters.now space.now ranges.now.list)
-        (range_with_len row.now.start row.now.pages)) }
+        (range_with_len row.start row.pages)) }
     ensures near { AreRunsOf (passes filters.now space.now ranges.now.list) near.new }
 {
     // For its clauses alone: each range ends below page 2^32.
     let _count = ranges.len();
-    reach(filters, space, ranges, row, near);
     let start = row.start;
     let end = start + row.pages;
+    reach(filters, space, ranges, &row, near);
     near.count(start, end)
 }
 
@@ -153,14 +167,13 @@ fn count_apart(
 fn reach(filters: &Filters, space: &Space, ranges: &Ranges, row: &Row, near: &mut RangeRuns)
     requires within { AreWithin space.now ranges.now.list }
     requires held { Any (LiesIn (span_of row.now)) ranges.now.list }
+    requires end { row.now.start + row.now.pages < 2 ^ 32 }
     requires near { AreRunsOf (passes filters.now space.now ranges.now.list) near.old }
     ensures near { AreRunsOf (passes filters.now space.now ranges.now.list) near.new }
     ensures from { near.new.from ≤ row.now.start }
     ensures to { row.now.start + row.now.pages ≤ near.new.to }
     ensures small { near.new.to < 2 ^ 32 }
 {
-    // For its clauses alone: each range ends below page 2^32.
-    let _count = ranges.len();
     if near.from <= row.start && row.start + row.pages <= near.to {
         return;
     }
@@ -177,8 +190,6 @@ fn look_up(filters: &Filters, space: &Space, ranges: &Ranges, row: &Row, near: &
     ensures to { row.now.start + row.now.pages ≤ near.new.to }
     ensures small { near.new.to < 2 ^ 32 }
 {
-    // For its clauses alone: each range ends below page 2^32.
-    let _count = ranges.len();
     let Found { index, range } = range_of(ranges, row, near.index.saturating_add(1));
     near.from = range.first;
     near.to = range.first + range.pages;
@@ -199,6 +210,7 @@ fn range_of(ranges: &Ranges, row: &Row, next: u32) -> Found
     requires { Any (LiesIn (span_of row.now)) ranges.now.list }
     ensures from { result.range.first ≤ row.now.start }
     ensures to { row.now.start + row.now.pages ≤ end_of result.range }
+    ensures small { end_of result.range < 2 ^ 32 }
     ensures one { slice_get ranges.now.list result.index ≡ Some result.range }
 {
     if next < ranges.len() {
@@ -225,6 +237,7 @@ fn search(ranges: &Ranges, row: &Row) -> Found
     requires { Any (LiesIn (span_of row.now)) ranges.now.list }
     ensures from { result.range.first ≤ row.now.start }
     ensures to { row.now.start + row.now.pages ≤ end_of result.range }
+    ensures small { end_of result.range < 2 ^ 32 }
     ensures one { slice_get ranges.now.list result.index ≡ Some result.range }
 {
     let mut low = 0;

@@ -1,10 +1,10 @@
-ghost use Rattle.std.specs.Prelude.{◌≡◌, ◌+◌, ◌^◌, ◌≤◌, ◌<◌, ℕ, Any, Some, length, slice_get, sum_by};
+ghost use Rattle.std.specs.Prelude.{◌≡◌, ◌+◌, ◌^◌, ◌≤◌, ◌<◌, ℕ, All, Any, Some, length, slice_get, sum_by};
 ghost use Rattle.damon_types.specs.Ranges.{end_of};
 ghost use Rattle.damon_types.specs.Span.{span_of};
 ghost use Rattle.damon_types.specs.Within.{AreWithin};
 ghost use Rattle.region_list.specs.Tiles.{LiesIn};
 ghost use Rattle.scheme_filter.specs.Passes.{passes};
-ghost use Rattle.scheme_filter.specs.Runs.{AreLongest, runs_of};
+ghost use Rattle.scheme_filter.specs.Runs.{AreLongest, run_end, runs_of};
 ghost use Rattle.scheme_filter.specs.RowPages.{IsRowPages, answer_at};
 
 use crate::row_pages::RowPages;
@@ -24,6 +24,7 @@ pub fn passing(filters: &Filters, space: &Space, ranges: &Ranges, row: &Row, run
     ensures exact { runs.new
         ≡ runs_of (passes filters.now space.now ranges.now.list) row.now.start row.now.pages }
     ensures fits { sum_by (λ r. r.pages) runs.new < 2 ^ 32 }
+    ensures ends { All (λ r. run_end r < 2 ^ 32) runs.new }
 {
     // For its clauses alone: the ranges are in order.
     let _count = ranges.len();

@@ -1,6 +1,5 @@
 use Rattle.std.proofs.Common.{rules, ◌≡◌, ◌≤◌, ℕ, List, Some, [], ap, ◌∙◌, sym, subst}
 use Rattle.std.specs.Prelude.{nat_lt, not}
-use Rattle.std.proofs.lemmas.Fn.{filter_same}
 use Rattle.priority.specs.declared.candidates.Candidate.{Candidate}
 use Rattle.priority.specs.Candidates.{AreCandidates}
 use Rattle.priority.specs.Chosen.{leaves_pages}
@@ -27,16 +26,13 @@ returns-then-left-eq0-clause-exceeds c =
 pub returns-then-left-eq0-clause-sound : goal.returns-then-left-eq0-clause-sound
 returns-then-left-eq0-clause-sound c = subst (λ cs. AreCandidates cs) (sym c.clear.ensures.items) sound_none
 
-filtered : (c : goal.After-retain) → c.retain.new.self.items ≡ up_to c.in-Some.last c.args.items.now.items
-filtered c = filter_same _ (λ x. not (is_before c.in-Some.last x)) _ (λ x b f' r. search rules) _ _ c.retain.ensures.filtered
-
 enough : (cs items : List Candidate) (n : ℕ) (last : Candidate) → items ≡ cs → n ≤ passing_of_all (up_to last items) → n ≤ passing_of_all (up_to last cs)
 enough cs items n last same is = subst (λ xs. n ≤ passing_of_all (up_to last xs)) same is
 
 pub returns-clause-same : goal.returns-clause-same
 returns-clause-same c =
     let cs = c.args.items.now.items in
-    subst (λ ds. SameChoice (Some c.args.left) cs ds) (sym (filtered c))
+    subst (λ ds. SameChoice (Some c.args.left) cs ds) (sym c.keep_up_to.ensures.items)
     (drop_same c.args.left c.in-Some.last cs c.requires.sound.distinct (enough cs c.deref-2.result.now c.args.left c.in-Some.last c.deref-2.ensures.value c.in-Some.ensures))
 
 exceeds : (cs items : List Candidate) (n from : ℕ) → AreCandidates cs → items ≡ cs → from ≡ passing_from items 0 → nat_lt n from ≡ leaves_pages (with_shares (Some n) cs)
@@ -47,7 +43,7 @@ returns-clause-exceeds c =
     exceeds c.args.items.now.items c.deref.result.now c.args.left c.from.result c.requires.sound c.deref.ensures.value (c.from.ensures.sum ∙ c.passing_by_score-sums.ensures 0)
 
 pub returns-clause-sound : goal.returns-clause-sound
-returns-clause-sound c = subst (λ cs. AreCandidates cs) (sym (filtered c)) (sound_filter (λ x. not (is_before c.in-Some.last x)) c.args.items.now.items c.requires.sound)
+returns-clause-sound c = subst (λ cs. AreCandidates cs) (sym c.keep_up_to.ensures.items) (sound_filter (λ x. not (is_before c.in-Some.last x)) c.args.items.now.items c.requires.sound)
 
 pub returns-in_default-clause-exceeds : goal.returns-in_default-clause-exceeds
 returns-in_default-clause-exceeds c =

@@ -161,3 +161,12 @@ parts-preserved c =
       near = c.loop-k.invariant.near;
       few = omega (arith, c.parts.invariant.few, end, c.find_matches-number.ensures.few, length-take n (drop from c.pages.result.now));
     }
+
+pub returns-clause-few : goal.returns-clause-few
+returns-clause-few c =
+    let rows = c.args.regions.now.rows in
+    let h = candidate_of c.args.served.now.space.now c.args.regions.now.ranges c.args.served.now.aggr c.args.served.now.scheme.now in
+    omega (arith, length-filter_map h (take c.parts.from rows), length-take c.parts.from rows, ap length c.parts.invariant.list, c.len-count.ensures.len, c.len-count.ensures.few, c.len-count.ensures.most)
+
+pub returns-clause-tiled : goal.returns-clause-tiled
+returns-clause-tiled c = record { unit = c.len-count.ensures.unit; order = c.len-count.ensures.order; tiling = c.len-count.ensures.tiling; few = omega (arith, c.len-count.ensures.len, c.len-count.ensures.few) }

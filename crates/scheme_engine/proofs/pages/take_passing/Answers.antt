@@ -1,25 +1,18 @@
-use Rattle.std.proofs.Common.{◌≡◌, ◌+◌, ◌≤◌, ◌<◌, ◌^◌, ◌-◌, ◌++◌, List, length, map, ap, sym, ◌∙◌, arith}
+use Rattle.std.proofs.Common.{◌≡◌, ◌-◌, ◌++◌, List, length, map, ap, sym, ◌∙◌, arith}
 use Rattle.std.proofs.lemmas.List.{length-append, length-map}
-use Rattle.std.proofs.lemmas.List.Elements.{All-weaker}
 use Rattle.damon_types.specs.Span.{span_of}
 use Rattle.scheme_filter.specs.declared.runs.Run.{Run}
 use Rattle.scheme_filter.specs.Passes.{passes}
-use Rattle.scheme_filter.specs.Runs.{run_end}
 use Rattle.scheme_engine.specs.declared.applied.AppliedRun.{AppliedRun}
 use Rattle.scheme_engine.specs.Applied.{AppliedList}
 use Rattle.scheme_engine.specs.Applying.{first_pages, end_of_runs}
 use Rattle.scheme_engine.specs.Taken.{applied_run, taken_runs}
 use Rattle.scheme_engine.proofs.ApplyLemmas.{cut_within, end_is}
-use Rattle.scheme_engine.proofs.PlaceLemmas.{held_end}
 use Rattle.scheme_engine.proofs.TakenLemmas.{length-first_pages, taken_are_first}
 use Rattle.scheme_engine.proofs.pages.take_passing.Goals as goal
 
 pub take_pages-end-requires-clause-ends : goal.take_pages-end-requires-clause-ends
-take_pages-end-requires-clause-ends c =
-    let r = c.args.row.now in
-    let end = held_end c.args.ranges.now.list (span_of r) c.len-count.ensures.order c.requires.held in
-    rw c.as_slice.ensures.items
-    (All-weaker (λ s. (r.start ≤ s.start) × (run_end s ≤ r.start + r.pages)) (λ s. run_end s < 2 ^ 32) (λ s is. omega (arith, is.1, end)) c.passing.new.runs c.passing.ensures.longest.within)
+take_pages-end-requires-clause-ends c = rw c.as_slice.ensures.items c.passing.ensures.ends
 
 pub overflow_sub-result : goal.overflow_sub-result
 overflow_sub-result c =

@@ -1,4 +1,4 @@
-use Rattle.std.proofs.Common.{◌++◌, ◌≤◌, List, sym, ap, subst, ◌∙◌, length, arith, rules}
+use Rattle.std.proofs.Common.{◌++◌, ◌≤◌, List, sym, ap, subst, ◌∙◌, arith, rules}
 use Rattle.std.specs.Prelude.{IfSome}
 use Rattle.std.specs.Option.{option_map_or}
 use Rattle.damon_types.specs.declared.row.Row.{Row}
@@ -11,11 +11,9 @@ use Rattle.priority.proofs.Lemmas.{exceeds_permuted, lowest_permuted, taken_perm
 use Rattle.scheme_engine.specs.declared.applied.AppliedRun.{AppliedRun}
 use Rattle.scheme_engine.specs.Applied.{AppliedList}
 use Rattle.scheme_engine.specs.Applying.{IsPartOf, rows_cut}
-use Rattle.scheme_engine.specs.Candidates.{candidate_of, candidates_of}
-use Rattle.scheme_engine.specs.Kept.{AreTiled}
+use Rattle.scheme_engine.specs.Candidates.{candidates_of}
 use Rattle.scheme_engine.specs.Outcome.{chosen_of}
 use Rattle.scheme_engine.proofs.ChosenLemmas.{chosen_after, chosen_each, chosen_part_fits, chosen_runs, is_chosen}
-use Rattle.scheme_engine.proofs.GatherLemmas.{length-filter_map}
 use Rattle.scheme_engine.proofs.LawLemmas.{are_defined}
 use Rattle.scheme_engine.proofs.serve.run_scheme.Goals as goal
 
@@ -25,17 +23,12 @@ apply-part-requires-clause-each c =
     let space = c.args.served.now.space.now in
     let scheme = c.args.served.now.scheme.now in
     let all = chosen_of space c.args.served.now.aggr scheme c.args.left old in
-    let tiled : AreTiled old = record { unit = c.len-count.ensures.unit; order = c.len-count.ensures.order; tiling = c.len-count.ensures.tiling; few = omega (arith, c.len-count.ensures.len, c.len-count.ensures.few) } in
     let gathered = ap (λ (l : CandidateList). l.list) c.gather-tried.ensures.list in
-    let chosen = is_chosen space c.args.served.now.aggr scheme c.args.left old tiled c.gather-tried.new.candidates.list c.choose-chosen.new.self.list gathered c.choose-chosen.ensures.list in
+    let chosen = is_chosen space c.args.served.now.aggr scheme c.args.left old c.gather-tried.ensures.tiled c.gather-tried.new.candidates.list c.choose-chosen.new.self.list gathered c.choose-chosen.ensures.list in
     chosen_each (passes scheme.filters space old.ranges) old.rows all c.choose-chosen.new.self.list chosen
 
 pub apply-part-requires-clause-room : goal.apply-part-requires-clause-room
-apply-part-requires-clause-room c =
-    let old = c.args.regions.now in
-    let h = candidate_of c.args.served.now.space.now old.ranges c.args.served.now.aggr c.args.served.now.scheme.now in
-    let gathered = ap (λ (l : CandidateList). length l.list) c.gather-tried.ensures.list in
-    omega (arith, length-filter_map h old.rows, gathered, c.choose-chosen.ensures.len, c.len-count.ensures.len, c.len-count.ensures.few, c.len-count.ensures.most, c.requires.room)
+apply-part-requires-clause-room c = omega (arith, c.choose-chosen.ensures.len, c.gather-tried.ensures.few, c.requires.room)
 
 pub cut_part-requires : goal.cut_part-requires
 cut_part-requires c =
@@ -43,9 +36,8 @@ cut_part-requires c =
     let space = c.args.served.now.space.now in
     let scheme = c.args.served.now.scheme.now in
     let all = chosen_of space c.args.served.now.aggr scheme c.args.left old in
-    let tiled : AreTiled old = record { unit = c.len-count.ensures.unit; order = c.len-count.ensures.order; tiling = c.len-count.ensures.tiling; few = omega (arith, c.len-count.ensures.len, c.len-count.ensures.few) } in
     let gathered = ap (λ (l : CandidateList). l.list) c.gather-tried.ensures.list in
-    let chosen = is_chosen space c.args.served.now.aggr scheme c.args.left old tiled c.gather-tried.new.candidates.list c.choose-chosen.new.self.list gathered c.choose-chosen.ensures.list in
+    let chosen = is_chosen space c.args.served.now.aggr scheme c.args.left old c.gather-tried.ensures.tiled c.gather-tried.new.candidates.list c.choose-chosen.new.self.list gathered c.choose-chosen.ensures.list in
     subst (λ (r : RegionList). IfSome c.apply-part.result (IsPartOf r.rows)) (sym c.apply-part.ensures.rows)
     (chosen_part_fits scheme.action (passes scheme.filters space old.ranges) old.rows all c.choose-chosen.new.self.list c.apply-part.result chosen c.apply-part.ensures.part)
 
@@ -62,18 +54,16 @@ returns c =
     let cs = candidates_of space old.ranges aggr scheme old.rows in
     let list = c.choose-chosen.new.self.list in
     let told = c.choose-chosen.ensures in
-    let tiled : AreTiled old = record { unit = c.len-count.ensures.unit; order = c.len-count.ensures.order; tiling = c.len-count.ensures.tiling; few = omega (arith, c.len-count.ensures.len, c.len-count.ensures.few) } in
-    let are = are_defined space aggr scheme left old tiled in
+    let are = are_defined space aggr scheme left old c.gather-tried.ensures.tiled in
     let gathered = ap (λ (l : CandidateList). l.list) c.gather-tried.ensures.list in
-    let few = ap (λ (l : CandidateList). length l.list) c.gather-tried.ensures.list in
-    let chosen = is_chosen space aggr scheme left old tiled c.gather-tried.new.candidates.list list gathered told.list in
+    let chosen = is_chosen space aggr scheme left old c.gather-tried.ensures.tiled c.gather-tried.new.candidates.list list gathered told.list in
     let taken = told.taken ∙ ap (λ ds. taken_of (with_shares left ds)) gathered in
     let runs : List AppliedRun → AppliedList = λ rs. record applied { runs = applied.runs ++ rs } in
     let rows : List Row → RegionList = λ rs. record old { rows = rs } in
     let cut : RegionList → RegionList = λ r. record r { rows = option_map_or (rows_cut r) c.apply-part.result r.rows } in
     record {
       runs = c.apply-part.ensures.runs ∙ ap runs (chosen_runs c.args.served.now.number test old.rows all list chosen);
-      few = omega (arith, length-filter_map (candidate_of space old.ranges aggr scheme) old.rows, few, told.len, c.len-count.ensures.len, c.len-count.ensures.few, c.len-count.ensures.most, c.apply-part.ensures.few);
+      few = omega (arith, told.len, c.gather-tried.ensures.few, c.apply-part.ensures.few);
       rows = c.cut_part.ensures ∙ ap cut c.apply-part.ensures.rows ∙ ap rows (chosen_after scheme.action test old all list c.apply-part.result chosen c.apply-part.ensures.part);
       tried = c.gather-tried.ensures.tried;
       taken = taken ∙ taken_permuted _ _ are.same;

@@ -1,6 +1,6 @@
 use Rattle.std.proofs.Common.{◌+◌, arith}
 use Rattle.scheme_filter.specs.Passes.{passes}
-use Rattle.scheme_filter.proofs.RangeLemmas.{all_pass, in_first_within}
+use Rattle.scheme_filter.proofs.RangeLemmas.{all_pass, in_first_within, none_pass}
 use Rattle.scheme_filter.proofs.RowLemmas.{row_fits}
 use Rattle.scheme_filter.proofs.range_runs.count_passing.Goals as goal
 
@@ -16,5 +16,16 @@ returns-then-is_in_first c =
     let within = in_first_within near r.start (r.start + r.pages) c.requires.near.within first in
     record {
       count = all_pass p near r.start r.pages within.0 within.1 c.requires.near first;
+      near = c.requires.near;
+    }
+
+pub returns-then-has_none : goal.returns-then-has_none
+returns-then-has_none c =
+    let p = passes c.args.filters.now c.args.space.now c.args.ranges.now.list in
+    let r = c.args.row.now in
+    let none = c.has_none.ensures in
+    let is = c.if-has_none.true in
+    record {
+      count = none_pass p c.args.near.now r.start r.pages (none.none is) (none.from is) (none.to is) c.requires.near;
       near = c.requires.near;
     }

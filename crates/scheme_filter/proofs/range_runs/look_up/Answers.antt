@@ -3,28 +3,13 @@ use Rattle.std.specs.Prelude.{All}
 use Rattle.damon_types.specs.Ranges.{end_of}
 use Rattle.scheme_filter.specs.Runs.{run_end}
 use Rattle.scheme_filter.proofs.LongestLemmas.{all_weaker}
-use Rattle.scheme_filter.proofs.RangeLemmas.{range_ends}
 use Rattle.scheme_filter.proofs.range_runs.look_up.Goals as goal
-
-pub overflow_add-near : goal.overflow_add-near
-overflow_add-near c =
-    let gs = c.args.ranges.now.list in
-    let one = c.range_of-index.ensures.one in
-    omega (arith, range_ends gs c.range_of-index.result.range c.range_of-index.result.index c.len-count.ensures.order one)
 
 pub passing_in-requires-clause-one : goal.passing_in-requires-clause-one
 passing_in-requires-clause-one c = (c.range_of-index.result.index, c.range_of-index.ensures.one)
 
-pub returns-clause-small : goal.returns-clause-small
-returns-clause-small c =
-    let gs = c.args.ranges.now.list in
-    let one = c.range_of-index.ensures.one in
-    omega (arith, range_ends gs c.range_of-index.result.range c.range_of-index.result.index c.len-count.ensures.order one)
-
 pub first_of-near-inside-requires : goal.first_of-near-inside-requires
 first_of-near-inside-requires c =
-    let gs = c.args.ranges.now.list in
     let range = c.range_of-index.result.range in
-    let small = range_ends gs range c.range_of-index.result.index c.len-count.ensures.order c.range_of-index.ensures.one in
     subst (All (λ r. run_end r < 2 ^ 32)) (sym c.as_slice.ensures.items)
-    (all_weaker (λ r. (range.first ≤ r.start) × (run_end r ≤ end_of range)) (λ r. run_end r < 2 ^ 32) c.passing_in.new.runs (λ r is. omega (arith, is.1, small)) c.passing_in.ensures.within)
+    (all_weaker (λ r. (range.first ≤ r.start) × (run_end r ≤ end_of range)) (λ r. run_end r < 2 ^ 32) c.passing_in.new.runs (λ r is. omega (arith, is.1, c.range_of-index.ensures.small)) c.passing_in.ensures.within)

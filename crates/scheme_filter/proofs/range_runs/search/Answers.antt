@@ -3,7 +3,7 @@ use Rattle.std.specs.Prelude.{slice_index_or}
 use Rattle.std.proofs.lemmas.Option.{get_or_from_slice_get}
 use Rattle.damon_types.specs.declared.range.Range.{Range}
 use Rattle.damon_types.specs.Ranges.{end_of}
-use Rattle.scheme_filter.proofs.RangeLemmas.{no_range, searched_above, searched_below, searched_first, searched_to}
+use Rattle.scheme_filter.proofs.RangeLemmas.{no_range, range_ends, searched_above, searched_below, searched_first, searched_to}
 use Rattle.scheme_filter.proofs.range_runs.search.Goals as goal
 
 pub search-init : goal.search-init
@@ -42,3 +42,6 @@ returns-clause-to c =
     let r = c.args.row.now in
     let is = get_or_from_slice_get gs c.search.low c.get-2.result no_range c.get-2.ensures in
     subst (λ g. r.start + r.pages ≤ end_of g) is (searched_to gs r.start (r.start + r.pages) c.search.low c.search.high c.len-high.ensures.order c.search-test.false c.search.invariant)
+
+pub returns-clause-small : goal.returns-clause-small
+returns-clause-small c = range_ends c.args.ranges.now.list c.get-2.result c.search.low c.len-high.ensures.order c.get-2.ensures

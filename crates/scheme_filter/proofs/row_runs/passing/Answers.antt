@@ -1,10 +1,11 @@
-use Rattle.std.proofs.Common.{◌+◌, List, refl, sym, ap, ◌∙◌, arith}
+use Rattle.std.proofs.Common.{◌+◌, ◌≤◌, ◌<◌, ◌^◌, List, refl, sym, ap, ◌∙◌, arith}
 use Rattle.std.specs.Prelude.{sum_by}
 use Rattle.scheme_filter.specs.declared.row_pages.RowPages.{RowPages}
 use Rattle.scheme_filter.specs.declared.runs.Run.{Run}
 use Rattle.scheme_filter.specs.Passes.{passes}
 use Rattle.scheme_filter.specs.RowPages.{answer_at}
-use Rattle.scheme_filter.proofs.LongestLemmas.{longest_same}
+use Rattle.scheme_filter.specs.Runs.{run_end}
+use Rattle.scheme_filter.proofs.LongestLemmas.{all_weaker, longest_same}
 use Rattle.scheme_filter.proofs.RowLemmas.{row_answer, row_fits, row_within}
 use Rattle.scheme_filter.proofs.RunsOfLemmas.{longest_is, runs_of-few}
 use Rattle.scheme_filter.proofs.row_runs.passing.Goals as goal
@@ -35,3 +36,9 @@ returns-clause-fits c =
     let row = c.args.row.now in
     let few = runs_of-few (passes c.args.filters.now c.args.space.now c.args.ranges.now.list) row.pages row.start in
     omega (arith, few, ap (λ (rs : List Run). sum_by (λ r. r.pages) rs) (returns-clause-exact c), row_fits c.args.ranges.now.list row c.len-count.ensures.order c.requires.held)
+
+pub returns-clause-ends : goal.returns-clause-ends
+returns-clause-ends c =
+    let row = c.args.row.now in
+    let fits = row_fits c.args.ranges.now.list row c.len-count.ensures.order c.requires.held in
+    all_weaker (λ r. (row.start ≤ r.start) × (run_end r ≤ row.start + row.pages)) (λ r. run_end r < 2 ^ 32) c.find_runs.new.runs (λ r is. omega (arith, is.1, fits)) (returns-clause-longest c).within
