@@ -14,7 +14,7 @@ ghost use Rattle.script_lines.specs.Words.{begins_with};
 use crate::ScriptFault;
 use crate::laws::lines_have_laws;
 use damon_types::{RangeSpec, Space};
-use line_text::split_front;
+use line_text::split_line;
 use script_lines::{ScriptKind, first_word, leading_range, leading_touch, same_word};
 
 // A text that is read line by line.
@@ -52,7 +52,7 @@ impl<'a> Lines<'a> {
         ensures shorter { IfOk result (λ _. length self.new.rest.now < length self.old.rest.now) }
         ensures small { IsShort self.new }
     {
-        match split_front(self.rest, b'\n') {
+        match split_line(self.rest) {
             (line, Some(rest)) => {
                 self.rest = rest;
                 self.taken += 1;
@@ -134,7 +134,7 @@ impl<'a> Lines<'a> {
     pub fn next_is(&self, word: &[u8]) -> bool
         ensures { result ≡ first_begins word.now self.now.rest.now }
     {
-        match split_front(self.rest, b'\n') {
+        match split_line(self.rest) {
             (line, Some(_)) => same_word(first_word(line), word),
             (_, None) => false,
         }
