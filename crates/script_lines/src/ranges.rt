@@ -39,6 +39,7 @@ pub fn leading_range(text: &[u8]) -> Option<(RangeSpec, &[u8])>
 }
 
 // Two addresses at the front of a text, each with a space after it, and the text after these.
+#[tactic(auto, using(line_text::proofs::Lemmas::leading_parts))]
 fn leading_addresses(text: &[u8]) -> Option<(u64, u64, &[u8])>
     ensures spelled { IfSome result (λ x. text.now
         ≡ spelled_address x.0 ++ (codes " " ++ (spelled_address x.1 ++ (codes " " ++ x.2.now)))) }
@@ -47,10 +48,6 @@ fn leading_addresses(text: &[u8]) -> Option<(u64, u64, &[u8])>
         → text.now ≡ spelled_address from ++ (codes " " ++ (spelled_address to ++ (codes " " ++ rest)))
         → option_map {U = ℕ × ℕ × List ℕ} (λ x. (x.0, x.1, x.2.now)) result ≡ Some (from, to, rest) }
 {
-    // For their clauses alone: what addresses are read from.
-    leading_numbers_are_spelled();
-    leading_numbers_are_read();
-    front_is_stripped();
     let (from, words) = leading_address(text)?;
     let words = strip(words, b" ")?;
     let (to, words) = leading_address(words)?;
