@@ -12,7 +12,6 @@ ghost use Rattle.damon_control.specs.LiveView.{reads_touch, with_workers};
 ghost use Rattle.script_lines.specs.Words.{begins_with};
 
 use crate::ScriptFault;
-use crate::laws::lines_have_laws;
 use damon_types::{RangeSpec, Space};
 use line_text::split_line;
 use script_lines::{ScriptKind, first_word, leading_range, leading_touch, same_word};
@@ -84,8 +83,6 @@ impl<'a> Lines<'a> {
         ensures as_long { IfNone result (length self.new.rest.now ≡ length self.old.rest.now) }
         ensures small { IsShort self.new }
     {
-        // For its clause alone: how lines are read.
-        lines_have_laws();
         let (page, rest) = leading_touch(space, self.rest)?;
         self.rest = rest;
         self.taken += 1;
@@ -108,8 +105,6 @@ impl<'a> Lines<'a> {
         ensures as_long { IfNone result (length self.new.rest.now ≡ length self.old.rest.now) }
         ensures small { IsShort self.new }
     {
-        // For its clause alone: how lines are read.
-        lines_have_laws();
         let (range, rest) = leading_range(self.rest)?;
         self.rest = rest;
         self.taken += 1;

@@ -1,4 +1,5 @@
 mod WordLemmas
+mod LineTexts
 mod SlotLemmas
 mod SettingLemmas
 mod SpellSteps
@@ -25,3 +26,4 @@ mod SpellExamples
 mod WrittenKeys
 mod WrittenSchemes
 mod SaidSchemes
+pub mod Lemmas
