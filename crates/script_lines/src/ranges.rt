@@ -7,10 +7,7 @@ ghost use Rattle.script_lines.specs.Spelling.{spelled_range};
 
 use crate::touches::leading_target;
 use damon_types::RangeSpec;
-use line_text::{
-    front_is_stripped, leading_address, leading_number, leading_numbers_are_read,
-    leading_numbers_are_spelled, strip,
-};
+use line_text::{leading_address, leading_number, strip};
 
 /// The range line at the front of a text, and the text after that line; `None` if no range line stands
 /// there. A shortcut before the reader of any line.
@@ -21,10 +18,6 @@ pub fn leading_range(text: &[u8]) -> Option<(RangeSpec, &[u8])>
         → text.now ≡ spelled_range range ++ 10 ∷ rest
         → option_map {U = range_spec × List ℕ} (λ x. (x.0, x.1.now)) result ≡ Some (range, rest) }
 {
-    // For their clauses alone: what numbers are read from.
-    leading_numbers_are_spelled();
-    leading_numbers_are_read();
-    front_is_stripped();
     let (target, words) = leading_target(text, b"range ")?;
     let (from, to, words) = leading_addresses(words)?;
     let (class, words) = leading_number(words, u64::from(u8::MAX))?;
