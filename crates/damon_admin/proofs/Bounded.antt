@@ -9,7 +9,6 @@ use Rattle.rand_core.specs.Steps.{stream_of, steps_u32}
 use Rattle.rand_pcg.specs.Lcg.{Lcg}
 use Rattle.rand_pcg.specs.Pcg.{pcg32}
 use Rattle.damon_types.specs.Space.{pages_of}
-use Rattle.line_text.specs.Laws.{PutsPartsTogether}
 use Rattle.script_lines.specs.Command.{CommandValue, weight, work_of}
 use Rattle.script_lines.specs.Limits.{AreCommandsWithin, IsCommandWithin}
 use Rattle.snapshot_print.specs.declared.form.Form.TheVariants.{Text}
@@ -57,12 +56,12 @@ bound_first each s cs rest sound is =
     (each t (sound_first s cs rest sound is)).bound events [] (sym (append-nil events))
 
 -- so it is after the first lines of each script
-pub bound_at : PutsPartsTogether → ScriptsAreSound → EachScriptIsBound → ContextsAreBound
-bound_at together sound each input lines said context s spells done left is =
+pub bound_at : ScriptsAreSound → EachScriptIsBound → ContextsAreBound
+bound_at sound each input lines said context s spells done left is =
     let own = lines_of context lines in
     let before = lines_of context done in
     let later = lines_of context left in
-    let led = script_leads own s (pieces_of together input lines said context) spells in
+    let led = script_leads own s (pieces_of input lines said context) spells in
     let split = bind-Ok (place_of before) (λ p. place_from p later) (AtEnd s)
     (sym (place_from-append AtHeader before later) ∙ ap place_of (sym (ap (lines_of context) is ∙ lines_of-append context done left)) ∙ led) in
     let first = first_commands split.0 later s split.2 in

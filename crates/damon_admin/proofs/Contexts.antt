@@ -5,8 +5,8 @@ use Rattle.std.specs.List.{AllByRecursion, filter}
 use Rattle.std.proofs.lemmas.Bool.Decides.{nat_tests}
 use Rattle.std.proofs.lemmas.List.{map-append, take-append-drop}
 use Rattle.std.proofs.lemmas.List.Elements.{All-from_recursion, All-tail, filter-append, recursion_from_All}
-use Rattle.line_text.specs.Laws.{PutsPartsTogether}
 use Rattle.line_text.specs.Parts.{IsPiece, parts}
+use Rattle.line_text.proofs.Lemmas.{parts_clean}
 use Rattle.script_lines.specs.declared.kind.ScriptKind.{ScriptKind}
 use Rattle.script_lines.specs.declared.kind.ScriptKind.TheVariants.{Header}
 use Rattle.script_lines.specs.Lines.{lines_text}
@@ -52,11 +52,6 @@ pub other_more : (c : ℕ) (xs : List ContextLine) (l : ContextLine) → l.conte
 other_more c xs l other =
     lines_of-append c xs (l ∷ []) ∙ ap (λ ls. lines_of c xs ++ ls) (lines_of-other c l [] other) ∙ append-nil (lines_of c xs)
 
-pub lines_text-append : (xs ys : List (List ℕ)) → lines_text (xs ++ ys) ≡ lines_text xs ++ lines_text ys
-lines_text-append [] ys = refl
-lines_text-append (x ∷ xs) ys =
-    ap (λ t. x ++ 10 ∷ t) (lines_text-append xs ys) ∙ sym (append_assoc x (10 ∷ lines_text xs) (lines_text ys))
-
 -- ---- no line has an LF
 
 -- no LF is in a line of a context
@@ -100,9 +95,9 @@ lines_whole c (l ∷ lines) whole = by (l.context == c) (lines_whole c lines who
     by false rest = rest
 
 -- no line of a context has an LF
-pub pieces_of : PutsPartsTogether → (input : List ℕ) (lines : List ContextLine) → lines_said input ≡ Ok lines → (c : ℕ) → All (IsPiece 10) (lines_of c lines)
-pieces_of together input lines said c =
-    let pieces = recursion_from_All (IsPiece 10) (parts 10 input) (together 10 input).1 in
+pub pieces_of : (input : List ℕ) (lines : List ContextLine) → lines_said input ≡ Ok lines → (c : ℕ) → All (IsPiece 10) (lines_of c lines)
+pieces_of input lines said c =
+    let pieces = recursion_from_All (IsPiece 10) (parts 10 input) (parts_clean 10 input) in
     All-from_recursion (IsPiece 10) (lines_of c lines) (lines_whole c lines (whole_lines (parts 10 input) lines pieces said))
 
 -- ---- contexts that were opened
@@ -149,16 +144,16 @@ split_any n m (line ∷ next ∷ more) lines e = by (context_line line) (λ othe
         ap (λ r. r >>= λ xs. Ok (first ∷ xs)) (rest others.0 others.1) ∙ others.2
     by (Err kind) rest said = absurd cc
 
-pub admin_new : PutsPartsTogether → (input : List ℕ) (at : ℕ) (lines : List ContextLine) (gs : List Gathered) (xs : List Context) → lines_said input ≡ Ok lines
+pub admin_new : (input : List ℕ) (at : ℕ) (lines : List ContextLine) (gs : List Gathered) (xs : List Context) → lines_said input ≡ Ok lines
     → lines_said input ≡ split_from 2 (parts 10 (drop at input)) → at ≤ length input → AreGathered lines gs → AreOpened gs xs → IsAdmin input at 0 false xs
-admin_new together input at lines gs xs said header inside gathered opened = record {
+admin_new input at lines gs xs said header inside gathered opened = record {
   lines = lines;
   said = said;
   here = λ n. split_any 2 n (parts 10 (drop at input)) lines (sym header ∙ said);
   inside = inside;
   few = omega arith;
   eight = opened_length gs xs opened ∙ gathered.eight;
-  pieces = pieces_of together input lines said;
+  pieces = pieces_of input lines said;
   kinds = λ c x is. kind_of (lines_of c lines) [] x (each c x is);
   each = λ ready c x is. each c x is;
 }

@@ -1,8 +1,9 @@
 -- Texts of whole lines: each is empty or ends with an LF.
 use Rattle.std.proofs.Common.{◌≡◌, ℕ, ◌<◌, ◌==◌, Bool, true, false, cond, List, [], ◌∷◌, ◌++◌, length, refl, sym, ap, ◌∙◌, subst, arith, append_assoc, append-nil, ◌⊎◌, inl, inr}
 use Rattle.std.specs.List.{flat_map, join_with_byte, onto_first}
-use Rattle.std.proofs.lemmas.List.Splits.{join_with_byte-slice_split, length-slice_split}
+use Rattle.std.proofs.lemmas.List.Splits.{join_with_byte-slice_split}
 use Rattle.line_text.specs.Parts.{parts}
+use Rattle.line_text.proofs.Lemmas.{parts_some}
 use Rattle.script_lines.specs.Lines.{lines_text}
 use Rattle.damon_admin.specs.Voice.{all_but_last, lines_in}
 
@@ -49,9 +50,6 @@ flat_ended f each (x ∷ xs) = both_ended (f x) (flat_map f xs) (each x) (flat_e
 
 -- ---- their lines
 
-pub some_parts : (text : List ℕ) → 0 < length (parts 10 text)
-some_parts text = omega (arith, length-slice_split (λ c. c == 10) text)
-
 onto-append : (c : ℕ) (ps qs : List (List ℕ)) → 0 < length ps → onto_first c (ps ++ qs) ≡ onto_first c ps ++ qs
 onto-append c [] qs some = absurd (omega arith)
 onto-append c (p ∷ ps) qs some = refl
@@ -65,7 +63,7 @@ parts_seam (c ∷ cs) rest =
     by : (t : Bool) → cond t ([] ∷ (parts 10 cs ++ parts 10 rest)) (onto_first c (parts 10 cs ++ parts 10 rest))
         ≡ cond t ([] ∷ parts 10 cs) (onto_first c (parts 10 cs)) ++ parts 10 rest
     by true = refl
-    by false = onto-append c (parts 10 cs) (parts 10 rest) (some_parts cs)
+    by false = onto-append c (parts 10 cs) (parts 10 rest) (parts_some 10 cs)
 
 all_but_last-append : (ps qs : List (List ℕ)) → 0 < length qs → all_but_last (ps ++ qs) ≡ ps ++ all_but_last qs
 all_but_last-append [] qs some = refl
@@ -81,7 +79,7 @@ all_but_last-append (p ∷ ps) qs some = first (ps ++ qs) (longer ps) ∙ ap (λ
 
 -- the lines of a text that ends with an LF, and of what follows it
 pub lines_in-after : (front rest : List ℕ) → lines_in (front ++ 10 ∷ rest) ≡ parts 10 front ++ lines_in rest
-lines_in-after front rest = ap all_but_last (parts_seam front rest) ∙ all_but_last-append (parts 10 front) (parts 10 rest) (some_parts rest)
+lines_in-after front rest = ap all_but_last (parts_seam front rest) ∙ all_but_last-append (parts 10 front) (parts 10 rest) (parts_some 10 rest)
 
 -- lines of which each is a piece of a text, put together again
 lines_text-joined : (ps : List (List ℕ)) → 0 < length ps → lines_text ps ≡ join_with_byte 10 ps ++ 10 ∷ []
@@ -91,7 +89,7 @@ lines_text-joined (p ∷ q ∷ ps) some =
     ap (λ t. p ++ 10 ∷ t) (lines_text-joined (q ∷ ps) (omega arith)) ∙ sym (append_assoc p (10 ∷ join_with_byte 10 (q ∷ ps)) (10 ∷ []))
 
 pub lines_text-parts : (front : List ℕ) → lines_text (parts 10 front) ≡ front ++ 10 ∷ []
-lines_text-parts front = lines_text-joined (parts 10 front) (some_parts front) ∙ ap (λ t. t ++ 10 ∷ []) (join_with_byte-slice_split 10 front)
+lines_text-parts front = lines_text-joined (parts 10 front) (parts_some 10 front) ∙ ap (λ t. t ++ 10 ∷ []) (join_with_byte-slice_split 10 front)
 
 -- the lines of whole lines are their text
 pub lines_text-lines_in : (text : List ℕ) → IsEnded text → lines_text (lines_in text) ≡ text

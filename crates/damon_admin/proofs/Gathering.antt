@@ -11,7 +11,8 @@ use Rattle.damon_control.specs.declared.fault.ScriptFault.{ScriptFault}
 use Rattle.damon_admin.specs.declared.gather.Gathered.{Gathered}
 use Rattle.damon_admin.specs.Kept.{AreGathered, AreWithin, IsGathered}
 use Rattle.damon_admin.specs.Lines.{ContextLine, context_text, lines_of}
-use Rattle.damon_admin.proofs.Contexts.{lines_text-append, other_more, own_more}
+use Rattle.script_lines.proofs.Lemmas.{lines_text-append}
+use Rattle.damon_admin.proofs.Contexts.{other_more, own_more}
 use Rattle.damon_admin.proofs.Puts.{put_at}
 
 -- no line is gathered

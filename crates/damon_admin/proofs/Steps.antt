@@ -21,7 +21,8 @@ use Rattle.damon_admin.specs.declared.stage.Stage.{Stage}
 use Rattle.damon_admin.specs.declared.stage.Stage.TheVariants as stage
 use Rattle.damon_admin.specs.Stage.{completes, stage_after, stage_of}
 use Rattle.damon_admin.specs.Written.{commands_at}
-use Rattle.damon_admin.proofs.Words.{alone_begins, begins_other, bind-Ok, either_way, limited_begins, one_begins, only_if-Ok, words_begin}
+use Rattle.script_lines.proofs.Lemmas.{begins_other}
+use Rattle.damon_admin.proofs.Words.{alone_begins, bind-Ok, either_way, limited_begins, one_begins, only_if-Ok, words_begin}
 
 -- one command more was said, or none
 abbrev pub IsSaid : Bool → List CommandValue → List CommandValue → Type 0

@@ -2,11 +2,12 @@
 use Rattle.std.proofs.Common.{◌≡◌, ℕ, ◌+◌, ◌-◌, ◌<◌, ◌≤◌, ◌==◌, ◌&&◌, Bool, true, false, List, [], ◌∷◌, ◌++◌, length, drop, Ok, Err, refl, sym, ap, ◌∙◌, arith}
 use Rattle.std.specs.Prelude.{Result}
 use Rattle.std.proofs.Math.Seq.{drop-append-add}
-use Rattle.std.proofs.lemmas.List.Splits.{join_with_byte-slice_split, length-slice_split}
+use Rattle.std.proofs.lemmas.List.Splits.{join_with_byte-slice_split}
 use Rattle.std.proofs.lemmas.Bool.Decides.{nat_tests}
 use Rattle.std.proofs.Common.{length-append}
 use Rattle.std.specs.List.{join_with_byte}
 use Rattle.line_text.specs.Parts.{parts}
+use Rattle.line_text.proofs.Lemmas.{parts_some}
 use Rattle.script_lines.specs.declared.kind.ScriptKind.{ScriptKind}
 use Rattle.script_lines.specs.declared.kind.ScriptKind.TheVariants.{Cut, Header, Form}
 use Rattle.script_lines.specs.Refusal.{◌>>=◌, only_if}
@@ -15,9 +16,6 @@ use Rattle.damon_control.specs.declared.fault.ScriptFault.{ScriptFault}
 use Rattle.damon_control.specs.Script.{at}
 use Rattle.damon_admin.specs.Lines.{ContextLine, context_line, header, is_context, lines_said, split, split_from}
 use Rattle.damon_admin.proofs.Words.{only_if-Ok}
-
-some_parts : (bytes : List ℕ) → 0 < length (parts 10 bytes)
-some_parts bytes = omega (arith, length-slice_split (λ c. c == 10) bytes)
 
 joined_more : (line : List ℕ) (lines : List (List ℕ)) → 0 < length lines → join_with_byte 10 (line ∷ lines) ≡ line ++ 10 ∷ join_with_byte 10 lines
 joined_more line [] some = absurd (omega arith)
@@ -28,7 +26,7 @@ front_of : (text line rest : List ℕ) → parts 10 text ≡ line ∷ parts 10 r
 front_of text line rest is =
     sym (join_with_byte-slice_split 10 text)
     ∙ ap (join_with_byte 10) is
-    ∙ joined_more line (parts 10 rest) (some_parts rest)
+    ∙ joined_more line (parts 10 rest) (parts_some 10 rest)
     ∙ ap (λ t. line ++ 10 ∷ t) (join_with_byte-slice_split 10 rest)
 
 pub front_used : (text line rest : List ℕ) → parts 10 text ≡ line ∷ parts 10 rest → length line + 1 ≤ length text
@@ -54,7 +52,7 @@ split_more line (next ∷ more) some = refl
 
 header_read : (text line rest : List ℕ) → parts 10 text ≡ line ∷ parts 10 rest
     → lines_said text ≡ (at 1 (only_if (same_word line header) Header (tt {0})) >>= λ t. split_from 2 (parts 10 rest))
-header_read text line rest is = ap split is ∙ split_more line (parts 10 rest) (some_parts rest)
+header_read text line rest is = ap split is ∙ split_more line (parts 10 rest) (parts_some 10 rest)
 
 abbrev by_test : Bool → List (List ℕ) → Result (List ContextLine) ScriptFault
 by_test test lines = at 1 (only_if test Header (tt {0})) >>= λ t. split_from 2 lines
@@ -85,7 +83,7 @@ split_first n (b ∷ bs) (next ∷ more) some = refl
 
 line_read : (n : ℕ) (text line rest : List ℕ) → parts 10 text ≡ line ∷ parts 10 rest
     → split_from n (parts 10 text) ≡ (at n (context_line line) >>= λ first. split_from (n + 1) (parts 10 rest) >>= λ others. Ok (first ∷ others))
-line_read n text line rest is = ap (split_from n) is ∙ split_first n line (parts 10 rest) (some_parts rest)
+line_read n text line rest is = ap (split_from n) is ∙ split_first n line (parts 10 rest) (parts_some 10 rest)
 
 pub line_refused : (n : ℕ) (text line rest : List ℕ) (kind : ScriptKind) → parts 10 text ≡ line ∷ parts 10 rest → context_line line ≡ Err kind
     → split_from n (parts 10 text) ≡ Err (record { line = n; kind = kind })

@@ -7,10 +7,10 @@ use Rattle.std.proofs.lemmas.Bool.Decides.{nat_tests}
 use Rattle.std.proofs.lemmas.List.{append_cancel_left, map-append}
 use Rattle.std.proofs.lemmas.List.Elements.{All-cons, filter-append, recursion_from_All}
 use Rattle.std.proofs.Math.Seq.{drop-append_seam}
-use Rattle.line_text.specs.Laws.{PutsPartsTogether}
 use Rattle.line_text.specs.Parts.{IsPiece, parts}
 use Rattle.damon_core.specs.Reached.{run}
 use Rattle.damon_core.specs.State.{opening}
+use Rattle.line_text.proofs.Lemmas.{parts_clean, parts_some}
 use Rattle.script_lines.specs.Command.{CommandValue}
 use Rattle.script_lines.specs.KindText.{kind_text}
 use Rattle.script_lines.specs.Lines.{lines_text}
@@ -33,8 +33,9 @@ use Rattle.damon_admin.specs.declared.stage.Stage.TheVariants as stage
 use Rattle.damon_admin.specs.Stage.{completes, stage_of}
 use Rattle.damon_admin.specs.Voice.{all_but_last, is_of, lines_in, spoken, spoken_line, voice}
 use Rattle.damon_admin.specs.Written.{all_written, commands_at, fault_line, gained, line_text, output_of, place_from, place_of, texts_from, told, written, written_as, written_at, written_where}
-use Rattle.damon_admin.proofs.Contexts.{lines_of-append, lines_of-own, lines_text-append, other_more, own_more, pieces_of}
-use Rattle.damon_admin.proofs.Ended.{IsEnded, line_ended, lines_text-lines_in, none_ended, some_parts}
+use Rattle.script_lines.proofs.Lemmas.{lines_text-append}
+use Rattle.damon_admin.proofs.Contexts.{lines_of-append, lines_of-own, other_more, own_more, pieces_of}
+use Rattle.damon_admin.proofs.Ended.{IsEnded, line_ended, lines_text-lines_in, none_ended}
 use Rattle.damon_admin.proofs.Places.{NextPlace, end_is_last, next_place, parts_first, place_from-append, script_leads}
 use Rattle.damon_admin.proofs.Playing.{at_end, text_amid, text_before, written_is}
 use Rattle.damon_admin.proofs.Reports.{end_ended, events_ended}
@@ -54,7 +55,7 @@ lines_before (l ∷ ls) rest pieces =
     let more = lines_text ls ++ rest in
     ap lines_in (append_assoc l (10 ∷ lines_text ls) rest)
     ∙ ap all_but_last (parts_first l more pieces.0)
-    ∙ first_kept l (parts 10 more) (some_parts more)
+    ∙ first_kept l (parts 10 more) (parts_some 10 more)
     ∙ ap (λ ms. l ∷ ms) (lines_before ls rest pieces.1)
 
 but_last : (P : List ℕ → Type 0) (ps : List (List ℕ)) → AllByRecursion P ps → AllByRecursion P (all_but_last ps)
@@ -106,21 +107,20 @@ heard_other c d (l ∷ ls) other =
     other_digit : (n : ℕ) → n ≢ c → ((48 + n == 48 + c) && (32 == 32)) ≡ false
     other_digit n differ = grind (arith, nat_tests, differ)
 
-module _ (together : PutsPartsTogether) where
-  -- what a context says before other text
-  heard_spoken : (c d : ℕ) (text rest : List ℕ) → voice c (spoken d text ++ rest) ≡ heard c (map (spoken_line d) (lines_in text)) ++ voice c rest
-  unfolding heard
-  heard_spoken c d text rest =
-      let pieces = but_last (IsPiece 10) (parts 10 text) (recursion_from_All (IsPiece 10) (parts 10 text) (together 10 text).1) in
-      let ls = map (spoken_line d) (lines_in text) in
-      ap (heard c) (lines_before ls rest (spoken_pieces d (lines_in text) pieces)) ∙ heard-append c ls (lines_in rest)
+-- what a context says before other text
+heard_spoken : (c d : ℕ) (text rest : List ℕ) → voice c (spoken d text ++ rest) ≡ heard c (map (spoken_line d) (lines_in text)) ++ voice c rest
+unfolding heard
+heard_spoken c d text rest =
+    let pieces = but_last (IsPiece 10) (parts 10 text) (recursion_from_All (IsPiece 10) (parts 10 text) (parts_clean 10 text)) in
+    let ls = map (spoken_line d) (lines_in text) in
+    ap (heard c) (lines_before ls rest (spoken_pieces d (lines_in text) pieces)) ∙ heard-append c ls (lines_in rest)
 
-  own_voice : (c : ℕ) (text rest : List ℕ) → IsEnded text → voice c (spoken c text ++ rest) ≡ text ++ voice c rest
-  own_voice c text rest whole =
-      heard_spoken c c text rest ∙ ap (λ t. t ++ voice c rest) (heard_own c (lines_in text) ∙ lines_text-lines_in text whole)
+own_voice : (c : ℕ) (text rest : List ℕ) → IsEnded text → voice c (spoken c text ++ rest) ≡ text ++ voice c rest
+own_voice c text rest whole =
+    heard_spoken c c text rest ∙ ap (λ t. t ++ voice c rest) (heard_own c (lines_in text) ∙ lines_text-lines_in text whole)
 
-  other_voice : (c d : ℕ) (text rest : List ℕ) → d ≢ c → voice c (spoken d text ++ rest) ≡ voice c rest
-  other_voice c d text rest other = heard_spoken c d text rest ∙ ap (λ t. t ++ voice c rest) (heard_other c d (lines_in text) other)
+other_voice : (c d : ℕ) (text rest : List ℕ) → d ≢ c → voice c (spoken d text ++ rest) ≡ voice c rest
+other_voice c d text rest other = heard_spoken c d text rest ∙ ap (λ t. t ++ voice c rest) (heard_other c d (lines_in text) other)
 
 -- ---- what a line adds
 
@@ -242,7 +242,7 @@ gains own done line next =
 
 -- ---- the whole output
 
-module _ (together : PutsPartsTogether) (all : List ContextLine) (pieces : (c : ℕ) → All (IsPiece 10) (lines_of c all)) (c : ℕ) where
+module _ (all : List ContextLine) (pieces : (c : ℕ) → All (IsPiece 10) (lines_of c all)) (c : ℕ) where
   -- what a context has written, and what it says from there on, is all that it writes
   telling : (done left : List ContextLine) → all ≡ done ++ left
       → written (lines_of c all) (lines_of c done) ++ voice c (texts_from all done left) ≡ written (lines_of c all) (lines_of c all)
@@ -275,7 +275,7 @@ module _ (together : PutsPartsTogether) (all : List ContextLine) (pieces : (c : 
           let gain = gains own before l.line its_next in
           let text : line_text all done l ≡ spoken c (gained own before l.line) = ap (λ d. spoken d (gained (lines_of d all) (lines_of d done) l.line)) same in
           ap (λ t. written own before ++ voice c (t ++ rest)) text
-          ∙ ap (λ t. written own before ++ t) (own_voice together c (gained own before l.line) rest gain.1)
+          ∙ ap (λ t. written own before ++ t) (own_voice c (gained own before l.line) rest gain.1)
           ∙ sym (append_assoc (written own before) (gained own before l.line) (voice c rest))
           ∙ ap (λ t. t ++ voice c rest) (sym gain.0)
           ∙ ap (λ ls. written own ls ++ voice c rest) (sym (own_more c done l same))
@@ -284,7 +284,7 @@ module _ (together : PutsPartsTogether) (all : List ContextLine) (pieces : (c : 
           let other : l.context ≢ c = grind (arith, nat_tests, test) in
           let own = lines_of c all in
           ap (λ t. written own (lines_of c done) ++ t)
-          (other_voice together c l.context (gained (lines_of l.context all) (lines_of l.context done) l.line) rest other)
+          (other_voice c l.context (gained (lines_of l.context all) (lines_of l.context done) l.line) rest other)
           ∙ ap (λ ls. written own ls ++ voice c rest) (sym (other_more c done l other))
           ∙ told
 
@@ -320,11 +320,11 @@ whole_voice (line ∷ lines) said pieces is =
     let some : 0 < length (lines_text own) = omega (arith, length-append line (10 ∷ lines_text lines)) in
     ap (λ t. t ++ said) (sym (nothing_first own (omega arith))) ∙ is ∙ all_last own pieces ∙ sym (told_all (lines_text own) some)
 
-pub voices : PutsPartsTogether → VoicesAreReports
-voices together input lines said c within =
-    let pieces = pieces_of together input lines said in
+pub voices : VoicesAreReports
+voices input lines said c within =
+    let pieces = pieces_of input lines said in
     record {
-      whole = whole_voice (lines_of c lines) (voice c (output_of lines)) (pieces c) (telling together lines pieces c [] lines refl);
+      whole = whole_voice (lines_of c lines) (voice c (output_of lines)) (pieces c) (telling lines pieces c [] lines refl);
       adds = λ done left line is. (gains (lines_of c lines) done line (record { later = left; all = is; pieces = pieces c })).0;
     }
 

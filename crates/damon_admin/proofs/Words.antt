@@ -1,13 +1,12 @@
 -- What a line that is accepted begins with.
 use Rattle.std.proofs.Common.{◌≡◌, ℕ, Bool, true, false, not, List, [], ◌∷◌, drop, Ok, Err, refl, sym, ap, ◌∙◌}
 use Rattle.std.specs.Prelude.{OnOk, Result, if◌then◌else◌}
-use Rattle.std.specs.Cmp.Lexicographic.{same_text}
 use Rattle.line_text.specs.Parts.{is_plain, parts}
 use Rattle.script_lines.specs.declared.kind.ScriptKind.{ScriptKind}
 use Rattle.script_lines.specs.declared.kind.ScriptKind.TheVariants.{Form, Word}
 use Rattle.script_lines.specs.Head.{limited}
 use Rattle.script_lines.specs.Refusal.{◌>>=◌, only_if}
-use Rattle.script_lines.specs.Words.{alone, arguments, begins_with, no_word, number_32, one_word, same_word}
+use Rattle.script_lines.specs.Words.{alone, arguments, begins_with, no_word, number_32, one_word}
 
 -- where two steps in a row succeed, each of them does
 pub bind-Ok : {A B E : Type 0} (r : Result A E) (f : A → Result B E) (y : B) → (r >>= f) ≡ Ok y → (x : A) × (r ≡ Ok x) × (f x ≡ Ok y)
@@ -29,24 +28,6 @@ pub either_way : {R G : Type 0} (test : Bool) (here others x : R) → (test ≡ 
     → (if test then here else others) ≡ x → G
 either_way true here others x found next e = found refl e
 either_way false here others x found next e = next refl e
-
--- a line has one first word
-begins_same : (word other line : List ℕ) → begins_with word line ≡ true → begins_with other line ≡ same_word word other
-begins_same word other line e = by (parts 32 line) refl
-  where
-    by : (words : List (List ℕ)) → parts 32 line ≡ words → begins_with other line ≡ same_word word other
-    by [] is =
-        let begins = rw is at e in
-        let same : [] ≡ word = same_text [] word (sym begins) in
-        rw is (ap (λ w. same_word w other) same)
-    by (first ∷ rest) is =
-        let begins = rw is at e in
-        let same : first ≡ word = same_text first word (sym begins) in
-        rw is (ap (λ w. same_word w other) same)
-
--- a line that begins with one word begins with no other
-pub begins_other : (word other line : List ℕ) → begins_with word line ≡ true → same_word word other ≡ false → begins_with other line ≡ false
-begins_other word other line e differ = begins_same word other line e ∙ differ
 
 arguments_begin : (word line : List ℕ) (words : List (List ℕ)) → arguments word line ≡ Ok words → begins_with word line ≡ true
 arguments_begin word line words e = by (begins_with word line) refl e

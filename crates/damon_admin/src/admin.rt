@@ -9,7 +9,6 @@ use crate::lines::{CONTEXTS, read_header, rest_from, take_line};
 use crate::voice::speak;
 use damon_control::{MAX_BYTES, ReadFail, scripts_are_sound};
 use damon_core::Monitor;
-use line_text::parts_are_pieces;
 use script_run::each_script_is_bound;
 use std::alloc::{AllocError, Global};
 use std::marker::Model;
@@ -28,9 +27,8 @@ pub struct Admin {
     // Memory has run out.
     failed: bool,
     contexts: Vec<Context>,
-    // What a context writes at the line that is being done, and the same with the context's digit.
+    // What a context writes at the line that is being done, without its digit.
     said: Vec<u8>,
-    spoken: Vec<u8>,
 }
 
 impl Model for Admin {
@@ -76,8 +74,6 @@ impl Admin {
         ensures ready { IfOk result (λ a. a.failed ≡ false) }
         ensures fault { FaultOf result (lines_said input.items) }
     {
-        // For its clause alone: no line has an LF.
-        parts_are_pieces();
         let gathered = gather(alloc, &input)?;
         let at = read_header(&input)?;
         let contexts = open_contexts(alloc, gathered)?;
@@ -88,7 +84,6 @@ impl Admin {
             failed: false,
             contexts,
             said: Vec::new(alloc),
-            spoken: Vec::new(alloc),
         })
     }
 
@@ -129,7 +124,6 @@ impl Admin {
         // It stays set if memory runs out: a context may then be in the middle of a command.
         self.failed = true;
         self.said.clear();
-        self.spoken.clear();
         let context = taken.own.context;
         go_on_at(
             &mut self.contexts,
@@ -138,8 +132,7 @@ impl Admin {
             taken.own.line,
             &mut self.said,
         )?;
-        speak(&mut self.spoken, context, &self.said)?;
-        out.extend_from_slice(&self.spoken)?;
+        speak(out, context, &self.said)?;
         self.at += taken.used;
         self.done += 1;
         self.failed = false;

@@ -5,9 +5,7 @@ ghost use Rattle.damon_admin.specs.Laws.{ContextsAreApart, ContextsAreBound, Voi
 /// the script that its lines spell, or the line of their fault; and each of its lines only adds to that.
 pub fn voices_are_reports()
     ensures voices { VoicesAreReports }
-{
-    line_text::parts_are_pieces();
-}
+{}
 
 /// Two inputs in which the lines of a context are the same give the same lines of output of that context,
 /// whatever the lines of the others.
@@ -22,7 +20,6 @@ pub fn contexts_are_apart()
 pub fn contexts_are_bound()
     ensures bound { ContextsAreBound }
 {
-    line_text::parts_are_pieces();
     damon_control::scripts_are_sound();
     script_run::each_script_is_bound();
 }

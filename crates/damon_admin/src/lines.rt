@@ -4,7 +4,7 @@ ghost use Rattle.damon_admin.specs.Kept.{IsTaken, line_said};
 ghost use Rattle.damon_admin.specs.Lines.{context_line, is_context, lines_said, split_from};
 
 use damon_control::ScriptFault;
-use line_text::split_front;
+use line_text::split_line;
 use script_lines::{ScriptKind, same_word};
 
 /// The most contexts of an input: their numbers are below this.
@@ -31,7 +31,7 @@ pub fn read_header(input: &[u8]) -> Result<usize, ScriptFault>
         lines_said input.now ≡ split_from 2 (parts 10 (drop used input.now))) }
     ensures fault { IfErr result (λ fault. lines_said input.now ≡ Err fault) }
 {
-    let (line, rest) = split_front(input, b'\n');
+    let (line, rest) = split_line(input);
     let Some(_rest) = rest else {
         return Err(ScriptFault {
             line: 1,
@@ -57,7 +57,7 @@ pub fn take_line(text: &[u8], number: u64) -> Result<Option<TakenLine>, ScriptFa
     if text.is_empty() {
         return Ok(None);
     }
-    let (line, rest) = split_front(text, b'\n');
+    let (line, rest) = split_line(text);
     let Some(_rest) = rest else {
         return Err(ScriptFault {
             line: number,

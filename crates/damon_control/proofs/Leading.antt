@@ -43,7 +43,8 @@ use Rattle.damon_control.specs.Text.{EachSays, SaySetup}
 use Rattle.script_lines.specs.Lines.{lines_text}
 use Rattle.script_lines.specs.Words.{begins_with}
 use Rattle.damon_control.proofs.Leads.{leads, leads-line, leads-read, lines_apart}
-use Rattle.damon_control.proofs.LineWords.{begins_other, both_true, leads-IsPiece, part_begins, range_begins, scheme_begins, target_begins}
+use Rattle.script_lines.proofs.Lemmas.{begins_other}
+use Rattle.damon_control.proofs.LineWords.{both_true, leads-IsPiece, part_begins, range_begins, scheme_begins, target_begins}
 use Rattle.damon_control.proofs.OneSpelling.{IsSpelledFor, scheme_in-Ok, scheme_in-read}
 use Rattle.live_commit.proofs.Lemmas.{limits_kept}
 use Rattle.damon_control.proofs.SpaceLimits.{accepted-FitsRange, checked-IsSpace, checked_before}

@@ -27,7 +27,8 @@ use Rattle.damon_control.specs.Text.{AreCommit, EachSays, all_lines}
 use Rattle.script_lines.specs.Words.{alone, arguments, begins_with, number_32, one_word}
 use Rattle.damon_control.proofs.Leading.{LeadLaws, Opens, either_true, else_way, led_read, parts_lead, setup_leads, then_way}
 use Rattle.damon_control.proofs.Leads.{leads, leads-line}
-use Rattle.damon_control.proofs.LineWords.{begins_other, passes_begins}
+use Rattle.script_lines.proofs.Lemmas.{begins_other}
+use Rattle.damon_control.proofs.LineWords.{passes_begins}
 use Rattle.damon_control.proofs.LiveLemmas.{count_all-more, some_more, to_last-more, touches_after}
 use Rattle.damon_control.proofs.OneSpelling.{each_in_any}
 use Rattle.damon_control.proofs.SayPlaces.{both_ways}

@@ -1,7 +1,6 @@
 -- A line that is accepted begins with its word, and no byte of it is an LF.
 use Rattle.std.proofs.Common.{◌≡◌, ◌≢◌, ◌∷◌, [], ◌&&◌, ◌||◌, ◌==◌, ℕ, Bool, true, false, not, List, drop, length, codes, Ok, Err, refl, sym, ap, ◌∙◌}
 use Rattle.std.specs.Prelude.{All, Result, if◌then◌else◌}
-use Rattle.std.specs.Cmp.Lexicographic.{same_text}
 use Rattle.std.specs.List.{AllByRecursion, list_all}
 use Rattle.std.proofs.lemmas.List.Elements.{All-from_recursion}
 use Rattle.damon_types.specs.declared.range.RangeSpec.{RangeSpec}
@@ -37,24 +36,6 @@ use Rattle.damon_control.proofs.Steps.{bind-Ok, either_way, tested_way}
 pub record BeginsPlain (word line : List ℕ) : Type 0 where
   pub begins : begins_with word line ≡ true
   pub plain : is_plain line ≡ true
-
--- a line has one first word
-begins_same : (word other line : List ℕ) → begins_with word line ≡ true → begins_with other line ≡ same_word word other
-begins_same word other line e = by (parts 32 line) refl
-  where
-    by : (words : List (List ℕ)) → parts 32 line ≡ words → begins_with other line ≡ same_word word other
-    by [] is =
-        let begins = rw is at e in
-        let same : [] ≡ word = same_text [] word (sym begins) in
-        rw is (ap (λ w. same_word w other) same)
-    by (first ∷ rest) is =
-        let begins = rw is at e in
-        let same : first ≡ word = same_text first word (sym begins) in
-        rw is (ap (λ w. same_word w other) same)
-
--- a line that begins with one word begins with no other
-pub begins_other : (word other line : List ℕ) → begins_with word line ≡ true → same_word word other ≡ false → begins_with other line ≡ false
-begins_other word other line e differ = begins_same word other line e ∙ differ
 
 pub both_true : (first second : Bool) → (first && second) ≡ true → (first ≡ true) × (second ≡ true)
 both_true true second both = (refl, both)

@@ -20,7 +20,7 @@ use Rattle.damon_control.specs.LiveView.{NoBlock, NoCall, NoWorker, call_value, 
 use Rattle.script_lines.specs.Refusal.{◌>>=◌}
 use Rattle.damon_control.specs.Script.{InBody, InCommit, Place, after_live, at, live_within}
 use Rattle.script_lines.specs.Words.{alone, begins_with, same_word}
-use Rattle.damon_control.proofs.LineWords.{begins_other}
+use Rattle.script_lines.proofs.Lemmas.{begins_other}
 
 pub to_last-more : {A : Type 0} (lists : List (List A)) (last items : List A) → to_last (lists ++ last ∷ []) items ≡ lists ++ (last ++ items) ∷ []
 to_last-more [] last items = refl

@@ -9,21 +9,21 @@ use Rattle.script_lines.specs.Fits.{FitsRange}
 use Rattle.script_lines.specs.Refusal.{◌>>=◌}
 use Rattle.script_lines.specs.Spelling.{spelled_range}
 use Rattle.script_lines.specs.Words.{alone, begins_with}
+use Rattle.line_text.proofs.Lemmas.{parts_first}
+use Rattle.script_lines.proofs.Lemmas.{lines_read_back}
 use Rattle.damon_control.specs.declared.grammar.Grammar.{Grammar}
-use Rattle.damon_control.specs.LineLaws.{LineLaws}
 use Rattle.damon_control.specs.Script.{InCommit, Within, after_commit, at, reads, version_in, with_commit}
 use Rattle.damon_control.proofs.LineWords.{part_begins, plain-IsPiece}
 use Rattle.damon_control.proofs.PartLemmas.{reads_line}
 use Rattle.damon_control.proofs.Steps.{passed_over}
-use Rattle.damon_control.proofs.TouchLemmas.{parts_line}
 
 -- where a range may come in a commit, a text that begins with one is read as the range and the rest
-pub reads_range : (laws : LineLaws) (text : List ℕ) (range : RangeSpec) (rest : List ℕ) → text ≡ spelled_range range ++ 10 ∷ rest → FitsRange range
+pub reads_range : (text : List ℕ) (range : RangeSpec) (rest : List ℕ) → text ≡ spelled_range range ++ 10 ∷ rest → FitsRange range
     → (n : ℕ) (g : Grammar) (b : Within g) (c : CommitValue) → wants_slot c ≡ true
     → reads g n (InCommit b c) (parts 10 text) ≡ reads g (n + 1) (InCommit b (with_part c (Range range))) (parts 10 rest)
-reads_range laws text range rest whole fits n g b c comes =
+reads_range text range rest whole fits n g b c comes =
     let line = spelled_range range in
-    let said : part_line (version_in g b) c line ≡ Ok (Range range) = laws.back.part (version_in g b) c line (Range range) comes (refl, fits) in
+    let said : part_line (version_in g b) c line ≡ Ok (Range range) = lines_read_back.part (version_in g b) c line (Range range) comes (refl, fits) in
     let begins = part_begins (version_in g b) c line (Range range) said in
     let after : after_commit g b c line ≡ Ok (InCommit b (with_part c (Range range))) =
     passed_over (begins_with (codes "apply") line) (alone (codes "apply") line >>= λ _. with_commit g b c)
@@ -31,6 +31,6 @@ reads_range laws text range rest whole fits n g b c comes =
     (ap (λ r. r >>= λ part. Ok (InCommit b (with_part c part))) said)
     in
     ap (λ bytes. reads g n (InCommit b c) (parts 10 bytes)) whole
-    ∙ ap (reads g n (InCommit b c)) (parts_line laws.together laws.apart line rest (plain-IsPiece line begins.plain))
+    ∙ ap (reads g n (InCommit b c)) (parts_first 10 line rest (plain-IsPiece line begins.plain))
     ∙ reads_line g n (InCommit b c) line rest
     ∙ ap (λ r. at n r >>= λ next. reads g (n + 1) next (parts 10 rest)) after

@@ -12,7 +12,6 @@ use Rattle.damon_types.specs.declared.scheme.SlotChange.{SlotChange}
 use Rattle.damon_types.specs.declared.scheme.Version.{Version}
 use Rattle.damon_types.specs.Scheme.{checked_scheme, checked_time}
 use Rattle.damon_types.proofs.Lemmas.{both_ok}
-use Rattle.line_text.specs.Laws.{PutsPartsTogether, TakesApartPieces}
 use Rattle.line_text.specs.Parts.{IsPiece, joined, parts}
 use Rattle.live_commit.specs.Commit.{CommitValue}
 use Rattle.live_commit.specs.Setup.{SetupValue}
@@ -34,15 +33,16 @@ use Rattle.script_lines.specs.WriteBack.{ChangesAreReadBack}
 use Rattle.damon_control.specs.WriteBack.{CommitsAreReadBack, FitsCommit, IsSpelledIn, IsWritable, LiveSetupsAreReadBack, MayCommit, SetupsAreReadBack}
 use Rattle.script_lines.specs.WrittenLine.{change_text}
 use Rattle.damon_control.specs.Written.{commit_text, number_lines, part_given, part_text, parts_of, ranges_given, setup_text, spec_of, written_commit, written_setup}
+use Rattle.line_text.proofs.Lemmas.{parts_some}
+use Rattle.script_lines.proofs.Lemmas.{lines_text-append, parts_before}
 use Rattle.damon_control.proofs.Leading.{LeadLaws, Opens, parts_lead, setup_leads}
 use Rattle.damon_control.proofs.LeadingLive.{passes_opens}
 use Rattle.damon_control.proofs.LeadingScript.{begin_opens}
 use Rattle.damon_control.proofs.Leads.{leads, leads-line}
 use Rattle.damon_control.proofs.LineWords.{leads-IsPiece, plain-IsPiece}
 use Rattle.damon_control.proofs.OneSpelling.{IsSpelledFor, each_written_for}
-use Rattle.damon_control.proofs.PartLemmas.{parts-some, reads_line, reads_more}
+use Rattle.damon_control.proofs.PartLemmas.{reads_line, reads_more}
 use Rattle.damon_control.proofs.Steps.{bind-Ok}
-use Rattle.damon_control.proofs.WrittenLemmas.{lines_text-append}
 use Rattle.damon_control.proofs.WrittenRanges.{checked_written, ranges_again}
 use Rattle.damon_control.proofs.PartsInOrder.{TimesAreIn, cost_is_in, parts_in, times_are_in}
 use Rattle.damon_control.proofs.SlotLines.{each_gives_said, second_ok, set_sound}
@@ -107,26 +107,6 @@ written-SaySetup said back g seed s is =
     } in
     (says, each_written_for g s.slots)
 
--- ---- lines before others in a text
-
-joined_before : (lines pieces : List (List ℕ)) → 0 < length pieces → joined 10 (lines ++ pieces) ≡ lines_text lines ++ joined 10 pieces
-joined_before [] pieces some = refl
-joined_before (line ∷ []) [] some = absurd (omega arith)
-joined_before (line ∷ []) (p ∷ pieces) some = sym (append_assoc line (10 ∷ []) (joined 10 (p ∷ pieces)))
-joined_before (line ∷ next ∷ more) pieces some =
-    ap (λ t. line ++ 10 ∷ t) (joined_before (next ∷ more) pieces some)
-    ∙ sym (append_assoc line (10 ∷ lines_text (next ∷ more)) (joined 10 pieces))
-
--- lines without an LF before a text are its first parts
-parts_before : TakesApartPieces → PutsPartsTogether → (lines : List (List ℕ)) (bytes : List ℕ) → All (IsPiece 10) lines → parts 10 (lines_text lines ++ bytes) ≡ lines ++ parts 10 bytes
-parts_before apart together lines bytes each =
-    ap (parts 10) (ap (λ t. lines_text lines ++ t) (sym (together 10 bytes).0) ∙ sym (joined_before lines (parts 10 bytes) (parts-some 10 bytes)))
-    ∙ by (lines ++ parts 10 bytes) (omega (arith, length-append lines (parts 10 bytes), parts-some 10 bytes)) (All-append (IsPiece 10) lines (parts 10 bytes) each (together 10 bytes).1)
-  where
-    by : (pieces : List (List ℕ)) → 0 < length pieces → All (IsPiece 10) pieces → parts 10 (joined 10 pieces) ≡ pieces
-    by [] some each = absurd (omega arith)
-    by (first ∷ others) some each = apart 10 first others each
-
 -- lines that lead to a place are read up to it, and then what follows them
 reads_led : (g : Grammar) (n : ℕ) (place : Place g) (lines pieces : List (List ℕ)) (next : Place g) → 0 < length pieces → leads g place lines ≡ Ok next → reads g n place (lines ++ pieces) ≡ reads g (n + length lines) next pieces
 reads_led g n place [] pieces next some e =
@@ -155,28 +135,28 @@ whole_text first others last rest =
     ∙ sym (append_assoc first (10 ∷ lines_text (others ++ last ∷ [])) rest)
 
 -- the lines of a setup and the one after them lead to the place that this one opens
-opening_read_back : LeadLaws → ChangesAreReadBack → PutsPartsTogether → (g : Grammar) (seed : ℕ) (s : SetupValue) (opening : List ℕ) (next : Place g) (rest : List ℕ) → IsWritable seed s → Opens g seed s opening next
+opening_read_back : LeadLaws → ChangesAreReadBack → (g : Grammar) (seed : ℕ) (s : SetupValue) (opening : List ℕ) (next : Place g) (rest : List ℕ) → IsWritable seed s → Opens g seed s opening next
     → reads g 1 AtHeader (parts 10 (header_of g s.version ++ (codes "\n" ++ (setup_text seed s ++ (opening ++ (codes "\n" ++ rest))))))
     ≡ reads g (3 + length (written_setup seed s)) next (parts 10 rest)
-opening_read_back laws back together g seed s opening next rest is opens =
+opening_read_back laws back g seed s opening next rest is opens =
     let says = written-SaySetup laws.said back g seed s is in
     let written = written_setup seed s in
     let lines = header_of g s.version ∷ (written ++ opening ∷ []) in
     let lead : leads g AtHeader lines ≡ Ok next = setup_leads laws g seed s written opening next [] says.0 says.1 opens in
     let count : 1 + length lines ≡ 3 + length written = omega (arith, length-append written (opening ∷ [])) in
     ap (λ t. reads g 1 AtHeader (parts 10 t)) (whole_text (header_of g s.version) written opening rest)
-    ∙ ap (reads g 1 AtHeader) (parts_before laws.apart together lines rest (leads-IsPiece g AtHeader lines next lead))
-    ∙ reads_led g 1 AtHeader lines (parts 10 rest) next (parts-some 10 rest) lead
+    ∙ ap (reads g 1 AtHeader) (parts_before lines rest (leads-IsPiece g AtHeader lines next lead))
+    ∙ reads_led g 1 AtHeader lines (parts 10 rest) next (parts_some 10 rest) lead
     ∙ ap (λ n. reads g n next (parts 10 rest)) count
 
 -- the lines of a setup up to `begin` lead to its body
-pub setup_read_back : LeadLaws → ChangesAreReadBack → PutsPartsTogether → SetupsAreReadBack
-setup_read_back laws back together seed s body is = opening_read_back laws back together OfScript seed s (codes "begin") (InBody (begun seed s)) body is (begin_opens seed s)
+pub setup_read_back : LeadLaws → ChangesAreReadBack → SetupsAreReadBack
+setup_read_back laws back seed s body is = opening_read_back laws back OfScript seed s (codes "begin") (InBody (begun seed s)) body is (begin_opens seed s)
 
 -- the lines of a setup up to `passes` lead to its blocks
-pub live_setup_read_back : LeadLaws → ChangesAreReadBack → PutsPartsTogether → LiveSetupsAreReadBack
-live_setup_read_back laws back together seed s passes blocks is some few =
-    opening_read_back laws back together OfLive seed s (codes "passes " ++ decimal passes) (InBody (live_begun seed s passes)) blocks is (passes_opens laws.lines seed s passes some few)
+pub live_setup_read_back : LeadLaws → ChangesAreReadBack → LiveSetupsAreReadBack
+live_setup_read_back laws back seed s passes blocks is some few =
+    opening_read_back laws back OfLive seed s (codes "passes " ++ decimal passes) (InBody (live_begun seed s passes)) blocks is (passes_opens laws.lines seed s passes some few)
 
 -- ---- a commit
 
@@ -239,8 +219,8 @@ commit_opens OfLive v may = rw may refl
 commit_opens OfJournal none may = absurd none
 
 -- the text of a commit is read as it
-pub commit_read_back : LeadLaws → ChangesAreReadBack → PutsPartsTogether → CommitsAreReadBack
-commit_read_back laws back together g b c n rest may fits some spelled =
+pub commit_read_back : LeadLaws → ChangesAreReadBack → CommitsAreReadBack
+commit_read_back laws back g b c n rest may fits some spelled =
     let version = version_in g b in
     let written = written_commit c in
     let lines = codes "commit" ∷ written in
@@ -253,12 +233,12 @@ commit_read_back laws back together g b c n rest may fits some spelled =
     in
     let last = n + (1 + length written) in
     let apply : parts 10 (codes "apply\n" ++ rest) ≡ codes "apply" ∷ parts 10 rest =
-    parts_before laws.apart together (codes "apply" ∷ []) rest (All-cons (IsPiece 10) (codes "apply") [] (plain-IsPiece (codes "apply") refl) (All-nil (IsPiece 10)))
+    parts_before (codes "apply" ∷ []) rest (All-cons (IsPiece 10) (codes "apply") [] (plain-IsPiece (codes "apply") refl) (All-nil (IsPiece 10)))
     in
     let line : n + length lines ≡ last = omega arith in
     let text : codes "commit\n" ++ (commit_text c ++ (codes "apply\n" ++ rest)) ≡ lines_text lines ++ (codes "apply\n" ++ rest) = refl in
     ap (λ t. reads g n (InBody b) (parts 10 t)) text
-    ∙ ap (reads g n (InBody b)) (parts_before laws.apart together lines (codes "apply\n" ++ rest) (leads-IsPiece g (InBody b) lines (InCommit b c) lead))
+    ∙ ap (reads g n (InBody b)) (parts_before lines (codes "apply\n" ++ rest) (leads-IsPiece g (InBody b) lines (InCommit b c) lead))
     ∙ ap (λ ps. reads g n (InBody b) (lines ++ ps)) apply
     ∙ reads_led g n (InBody b) lines (codes "apply" ∷ parts 10 rest) (InCommit b c) (omega arith) lead
     ∙ ap (λ m. reads g m (InCommit b c) (codes "apply" ∷ parts 10 rest)) line

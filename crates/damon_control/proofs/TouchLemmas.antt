@@ -1,11 +1,8 @@
 -- A touch line at the front of a text is read as a touch.
-use Rattle.std.proofs.Common.{◌≡◌, ℕ, ◌+◌, ◌<◌, List, [], ◌∷◌, ◌++◌, length, codes, Ok, refl, sym, ap, ◌∙◌, arith}
-use Rattle.std.proofs.lemmas.List.Elements.{All-cons}
+use Rattle.std.proofs.Common.{◌≡◌, ℕ, ◌+◌, List, ◌∷◌, ◌++◌, codes, Ok, ap, ◌∙◌}
 use Rattle.damon_types.specs.declared.space.Target.{Target}
-use Rattle.line_text.specs.Laws.{PutsPartsTogether, TakesApartPieces}
-use Rattle.line_text.specs.Parts.{IsPiece, joined, parts}
+use Rattle.line_text.specs.Parts.{parts}
 use Rattle.script_lines.specs.Command.{CommandValue, Touch}
-use Rattle.damon_control.specs.LineLaws.{LineLaws}
 use Rattle.script_lines.specs.Body.{command_line}
 use Rattle.damon_control.specs.declared.grammar.Grammar.TheVariants.{OfScript}
 use Rattle.script_lines.specs.Refusal.{◌>>=◌}
@@ -13,20 +10,10 @@ use Rattle.damon_control.specs.Script.{Body, InBody, after_body, at, reads, with
 use Rattle.script_lines.specs.Touches.{BeginsWithTouch}
 use Rattle.script_lines.specs.Words.{begins_with}
 use Rattle.damon_control.proofs.LineWords.{BeginsNeither, command_begins, plain-IsPiece}
-use Rattle.damon_control.proofs.PartLemmas.{parts-some, reads_line}
+use Rattle.line_text.proofs.Lemmas.{parts_first}
+use Rattle.script_lines.proofs.Lemmas.{lines_read_back}
+use Rattle.damon_control.proofs.PartLemmas.{reads_line}
 use Rattle.damon_control.proofs.Steps.{passed_over}
-
--- a line before the others of a text
-joined_line : (line : List ℕ) (others : List (List ℕ)) → 0 < length others → joined 10 (line ∷ others) ≡ line ++ 10 ∷ joined 10 others
-joined_line line [] some = absurd (omega arith)
-joined_line line (next ∷ more) some = refl
-
--- a line without an LF is the first part of a text
-pub parts_line : (puts : PutsPartsTogether) (takes : TakesApartPieces) (line rest : List ℕ) → IsPiece 10 line → parts 10 (line ++ 10 ∷ rest) ≡ line ∷ parts 10 rest
-parts_line puts takes line rest piece =
-    ap (λ bytes. parts 10 (line ++ 10 ∷ bytes)) (sym (puts 10 rest).0)
-    ∙ ap (parts 10) (sym (joined_line line (parts 10 rest) (parts-some 10 rest)))
-    ∙ takes 10 line (parts 10 rest) (All-cons (IsPiece 10) line (parts 10 rest) piece (puts 10 rest).1)
 
 -- a line of a command goes on with the command
 after_command : (b : Body) (line : List ℕ) (command : CommandValue) → BeginsNeither (codes "end") (codes "commit") line → command_line b.said.setup.space line ≡ Ok command
@@ -36,14 +23,14 @@ after_command b line command neither said =
     (passed_over (begins_with (codes "commit") line) _ _ _ neither.not_second (ap (λ r. r >>= with_command b) said))
 
 -- a text that begins with a touch is read as the touch and the rest
-pub reads_touch : (laws : LineLaws) (space : List Target) (text : List ℕ) (page : ℕ) (rest : List ℕ) → BeginsWithTouch space text page rest
+pub reads_touch : (space : List Target) (text : List ℕ) (page : ℕ) (rest : List ℕ) → BeginsWithTouch space text page rest
     → (n : ℕ) (b : Body) → b.said.setup.space ≡ space
     → reads OfScript n (InBody b) (parts 10 text) ≡ (at n (with_command b (Touch page)) >>= λ next. reads OfScript (n + 1) next (parts 10 rest))
-reads_touch laws space text page rest begins n b same =
+reads_touch space text page rest begins n b same =
     let line = begins.line in
-    let said : command_line space line ≡ Ok (Touch page) = laws.back.command space line (Touch page) begins.touch in
+    let said : command_line space line ≡ Ok (Touch page) = lines_read_back.command space line (Touch page) begins.touch in
     let neither = command_begins space line (Touch page) said in
     ap (λ bytes. reads OfScript n (InBody b) (parts 10 bytes)) begins.whole
-    ∙ ap (reads OfScript n (InBody b)) (parts_line laws.together laws.apart line rest (plain-IsPiece line neither.plain))
+    ∙ ap (reads OfScript n (InBody b)) (parts_first 10 line rest (plain-IsPiece line neither.plain))
     ∙ reads_line OfScript n (InBody b) line rest
     ∙ ap (λ r. at n r >>= λ next. reads OfScript (n + 1) next (parts 10 rest)) (after_command b line (Touch page) neither (ap (λ targets. command_line targets line) same ∙ said))

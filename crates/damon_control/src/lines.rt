@@ -12,9 +12,8 @@ ghost use Rattle.damon_control.specs.LiveView.{reads_touch, with_workers};
 ghost use Rattle.script_lines.specs.Words.{begins_with};
 
 use crate::ScriptFault;
-use crate::laws::lines_have_laws;
 use damon_types::{RangeSpec, Space};
-use line_text::split_front;
+use line_text::split_line;
 use script_lines::{ScriptKind, first_word, leading_range, leading_touch, same_word};
 
 // A text that is read line by line.
@@ -52,7 +51,7 @@ impl<'a> Lines<'a> {
         ensures shorter { IfOk result (λ _. length self.new.rest.now < length self.old.rest.now) }
         ensures small { IsShort self.new }
     {
-        match split_front(self.rest, b'\n') {
+        match split_line(self.rest) {
             (line, Some(rest)) => {
                 self.rest = rest;
                 self.taken += 1;
@@ -84,8 +83,6 @@ impl<'a> Lines<'a> {
         ensures as_long { IfNone result (length self.new.rest.now ≡ length self.old.rest.now) }
         ensures small { IsShort self.new }
     {
-        // For its clause alone: how lines are read.
-        lines_have_laws();
         let (page, rest) = leading_touch(space, self.rest)?;
         self.rest = rest;
         self.taken += 1;
@@ -108,8 +105,6 @@ impl<'a> Lines<'a> {
         ensures as_long { IfNone result (length self.new.rest.now ≡ length self.old.rest.now) }
         ensures small { IsShort self.new }
     {
-        // For its clause alone: how lines are read.
-        lines_have_laws();
         let (range, rest) = leading_range(self.rest)?;
         self.rest = rest;
         self.taken += 1;
@@ -134,7 +129,7 @@ impl<'a> Lines<'a> {
     pub fn next_is(&self, word: &[u8]) -> bool
         ensures { result ≡ first_begins word.now self.now.rest.now }
     {
-        match split_front(self.rest, b'\n') {
+        match split_line(self.rest) {
             (line, Some(_)) => same_word(first_word(line), word),
             (_, None) => false,
         }

@@ -1,15 +1,9 @@
 // Laws of the definitions. No function here does anything.
-ghost use Rattle.script_lines.specs.Laws.{WordLaws};
 ghost use Rattle.journal_text.specs.Examples.{Comes};
 ghost use Rattle.journal_text.specs.Rules.{ReadsLawfulBack, ReadsOnlyLawful};
 
 use damon_control::{commits_are_read_in_parts, journal_heads_are_exactly_read};
-use damon_types::{pages_are_numbered, pages_rise};
-use line_text::{
-    address_is_spelled, decimal_has_digits, decimal_is_read, front_is_stripped, number_is_decimal,
-    parts_are_pieces, pieces_are_parts, spelled_address_has_digits, spelled_address_is_read,
-    stripped_front_was_first,
-};
+use damon_types::pages_are_numbered;
 use script_lines::body_lines_are_spelled;
 
 /// A live run of one page and one pass, by hand: what its journal replays to, its steps, and its text.
@@ -17,33 +11,14 @@ pub fn one_pass_by_hand()
     ensures { Comes }
 {}
 
-/// The laws of words, numbers and addresses, in one record.
-pub fn words_have_laws()
-    ensures laws { WordLaws }
-{
-    parts_are_pieces();
-    pieces_are_parts();
-    number_is_decimal();
-    decimal_is_read();
-    decimal_has_digits();
-    address_is_spelled();
-    spelled_address_is_read();
-    spelled_address_has_digits();
-    stripped_front_was_first();
-}
-
 /// Each text that is read as a journal, of at most as many bytes as a text may have, is the text of a lawful
 /// one that a text can spell, which is what was read.
 pub fn read_journals_are_lawful()
     ensures law { ReadsOnlyLawful }
 {
-    parts_are_pieces();
-    pieces_are_parts();
-    stripped_front_was_first();
     body_lines_are_spelled();
     commits_are_read_in_parts();
     journal_heads_are_exactly_read();
-    pages_rise();
     damon_core::reached_states_are_bound();
     live_commit::accepted_commits_are_within();
     target_ranges::accepted_has_room();
@@ -55,8 +30,6 @@ pub fn read_journals_are_lawful()
 pub fn lawful_journals_are_read()
     ensures law { ReadsLawfulBack }
 {
-    words_have_laws();
-    front_is_stripped();
     commits_are_read_in_parts();
     journal_heads_are_exactly_read();
     pages_are_numbered();

@@ -42,3 +42,6 @@ leading_address-read n c rest small fails =
     ∙ ap (λ xs. option_map (λ m. (m, drop (length xs) bytes)) (hex_number xs)) front
     ∙ ap (option_map (λ m. (m, drop (length ds) bytes))) is
     ∙ ap (λ ys. Some (n, ys)) (drop-append_seam ds (c ∷ rest))
+
+-- what stands at the front of bytes is read, or stripped, and the rest is left
+pub ruleset leading_parts = (leading_address-read, leading_number-read, after_prefix-append)

@@ -3,6 +3,7 @@ mod HexPairs
 mod Values
 mod Pieces
 mod Separators
+mod FirstLine
 mod FewParts
 mod Plain
 mod Numbers

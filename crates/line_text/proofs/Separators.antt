@@ -1,10 +1,10 @@
 -- The parts of bytes, taken from the front.
-use Rattle.std.proofs.Common.{◌≡◌, ◌≢◌, ℕ, arith, Bool, true, false, cond, List, [], ◌∷◌, ◌++◌, ◌==◌, Some, None, refl, ap, ◌∙◌, All, eq-eqb}
+use Rattle.std.proofs.Common.{◌≡◌, ◌≢◌, ◌<◌, ℕ, arith, length, Bool, true, false, cond, List, [], ◌∷◌, ◌++◌, ◌==◌, Some, None, refl, ap, ◌∙◌, All, eq-eqb}
 use Rattle.std.specs.List.{onto_first}
 use Rattle.std.proofs.lemmas.Bool.Decides.{nat_tests}
 use borrow.Author.Tests.{ne_eqb}
 use Rattle.std.proofs.lemmas.List.Elements.{All-weaker, All-nil, All-cons, All-head, All-tail}
-use Rattle.std.proofs.lemmas.List.Splits.{slice_split_none, slice_split_at, join_with_byte-slice_split}
+use Rattle.std.proofs.lemmas.List.Splits.{slice_split_none, slice_split_at, join_with_byte-slice_split, length-slice_split}
 use Rattle.line_text.specs.Line.{split_at_byte}
 use Rattle.line_text.specs.Parts.{IsPiece, joined, parts}
 use Rattle.line_text.proofs.Pieces.{split_at_byte-Some, split_at_byte-None}
@@ -25,6 +25,10 @@ parts-split_at_byte-Some separator bytes piece rest e = let told = split_at_byte
 
 pub parts-split_at_byte-None : (separator : ℕ) (bytes : List ℕ) → split_at_byte separator bytes ≡ None → parts separator bytes ≡ bytes ∷ []
 parts-split_at_byte-None separator bytes e = parts_none separator bytes ((split_at_byte-None separator bytes).0 e)
+
+-- bytes have at least one part
+pub parts_some : (separator : ℕ) (bytes : List ℕ) → 0 < length (parts separator bytes)
+parts_some separator bytes = omega (arith, length-slice_split (λ c. c == separator) bytes)
 
 -- pieces that are joined are taken apart again
 pub parts-joined : (separator : ℕ) (first : List ℕ) (others : List (List ℕ)) → All (IsPiece separator) (first ∷ others)

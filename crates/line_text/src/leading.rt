@@ -63,6 +63,9 @@ fn leading_hex(bytes: &[u8]) -> Option<(u64, &[u8])>
     }
 }
 
+// The most hexadecimal digits of an address.
+const MOST_DIGITS: usize = 16;
+
 // The value of the hexadecimal digits at the front of some bytes, if there are at most 16, and their number.
 #[inline]
 fn read_leading_hex_digits(bytes: &[u8]) -> Option<(u64, usize)>
@@ -72,15 +75,36 @@ fn read_leading_hex_digits(bytes: &[u8]) -> Option<(u64, usize)>
     ensures few { IfSome result (λ x. x.1 ≤ 16) }
     ensures none { IfNone result (16 < length (leading_hex_digits bytes.now)) }
 {
+    if bytes.len() <= MOST_DIGITS {
+        return Some(read_few_hex_digits(bytes));
+    }
     let mut value = 0;
-    for (index, byte) in bytes.iter().enumerate() {
-        let Some(digit) = hex_value(*byte) else {
+    // The number of turns is known, so the compiler lays them out one after another, without a counter.
+    for index in 0..MOST_DIGITS + 1 {
+        let Some(digit) = hex_value(bytes[index]) else {
             return Some((value, index));
         };
-        if index == 16 {
+        if index == MOST_DIGITS {
             return None;
         }
         value = 16 * value + u64::from(digit);
     }
-    Some((value, bytes.len()))
+    None
+}
+
+// The same of at most 16 bytes.
+fn read_few_hex_digits(bytes: &[u8]) -> (u64, usize)
+    requires { length bytes.now ≤ 16 }
+    ensures value { hex_on 0 (leading_hex_digits bytes.now) ≡ Some result.0 }
+    ensures digits { take result.1 bytes.now ≡ leading_hex_digits bytes.now }
+    ensures within { result.1 ≤ length bytes.now }
+{
+    let mut value = 0;
+    for (index, byte) in bytes.iter().enumerate() {
+        let Some(digit) = hex_value(*byte) else {
+            return (value, index);
+        };
+        value = 16 * value + u64::from(digit);
+    }
+    (value, bytes.len())
 }

@@ -33,4 +33,4 @@ pub use laws::{
 pub use leading::{leading_address, leading_number};
 pub use line::{next_word, same_text, strip};
 pub use number::{number_before, read_number, read_number_8, read_number_32, write_number};
-pub use parts::{four_parts, is_plain, next_part, split_front, three_parts, two_parts};
+pub use parts::{four_parts, is_plain, next_part, split_front, split_line, three_parts, two_parts};

@@ -4,6 +4,7 @@ ghost use Rattle.line_text.specs.Line.{split_at_byte, view_pair};
 ghost use Rattle.line_text.specs.Parts.{four_of, is_plain, is_printable, one_of, parts, parts_left, three_of, two_of, view_four, view_three};
 
 use crate::SPACE;
+use memchr::memchr;
 
 /// The bytes before the first separator, and those after it. `None` if there is no separator.
 pub fn next_part(bytes: &[u8], separator: u8) -> Option<(&[u8], &[u8])>
@@ -32,6 +33,20 @@ pub fn split_front(bytes: &[u8], separator: u8) -> (&[u8], Option<&[u8]>)
     match next_part(bytes, separator) {
         Some((front, rest)) => (front, Some(rest)),
         None => (bytes, None),
+    }
+}
+
+/// The first line of a text, and the text after its LF. `None` if no LF ends the line: it is the last. As
+/// [`split_front`] finds it, but many bytes at once.
+#[inline]
+pub fn split_line(text: &[u8]) -> (&[u8], Option<&[u8]>)
+    ensures exact { parts 10 text.now
+        ≡ result.0.now ∷ parts_left 10 (option_copied result.1) }
+    ensures shorter { IfSome result.1 (λ rest. length rest.now < length text.now) }
+{
+    match memchr(b'\n', text) {
+        Some(at) => (&text[..at], Some(&text[at + 1..])),
+        None => (text, None),
     }
 }
 

@@ -1,26 +1,29 @@
-pub mod WordLemmas
-pub mod SlotLemmas
-pub mod SettingLemmas
-pub mod SpellSteps
-pub mod SpellWords
-pub mod SpelledParts
-pub mod RangeFront
-pub mod Found
-pub mod PlainWords
-pub mod SpellFits
-pub mod ReadFields
-pub mod ReadKeys
-pub mod ReadSchemes
-pub mod ReadLines
-pub mod ReadCommands
-pub mod SpellLines
-pub mod SpellKeys
-pub mod SpellSchemes
-pub mod SpellCommands
-pub mod LineLimits
-pub mod BlockLemmas
-pub mod TouchFront
+mod WordLemmas
+mod LineTexts
+mod SlotLemmas
+mod SettingLemmas
+mod SpellSteps
+mod SpellWords
+mod SpelledParts
+mod RangeFront
+mod Found
+mod PlainWords
+mod SpellFits
+mod ReadFields
+mod ReadKeys
+mod ReadSchemes
+mod ReadLines
+mod ReadCommands
+mod LinesBack
+mod SpellLines
+mod SpellKeys
+mod SpellSchemes
+mod SpellCommands
+mod LineLimits
+mod BlockLemmas
+mod TouchFront
 mod SpellExamples
-pub mod WrittenKeys
-pub mod WrittenSchemes
-pub mod SaidSchemes
+mod WrittenKeys
+mod WrittenSchemes
+mod SaidSchemes
+pub mod Lemmas

@@ -1,11 +1,13 @@
 -- The words of a line, and those that are left of it.
-use Rattle.std.proofs.Common.{◌≡◌, ◌<◌, ◌==◌, ℕ, suc, List, [], ◌∷◌, length, Some, None, Err, IfSome, refl, arith}
-use Rattle.std.proofs.lemmas.List.Splits.{length-slice_split}
+use Rattle.std.proofs.Common.{◌≡◌, ◌<◌, ℕ, suc, true, false, List, [], ◌∷◌, length, Some, None, Err, IfSome, refl, sym, ap, ◌∙◌, arith}
 use Rattle.std.specs.Prelude.{Option}
 use Rattle.std.specs.Borrow.{Bor}
+use Rattle.std.specs.Cmp.Lexicographic.{same_text}
 use Rattle.line_text.specs.Parts.{one_of, parts}
+use Rattle.line_text.proofs.Lemmas.{address-Some, address-spelled_address, after_prefix-Some, digits-decimal, digits-hex, joined-parts_pieces, number-Some, number-decimal, parts-joined, parts_some}
+use Rattle.script_lines.specs.Laws.{WordLaws}
 use Rattle.script_lines.specs.declared.kind.ScriptKind.TheVariants.{Form}
-use Rattle.script_lines.specs.Words.{no_word}
+use Rattle.script_lines.specs.Words.{begins_with, no_word, same_word}
 
 -- how much is left of words: each word that is taken makes it less
 abbrev pub size_left : Option (Bor (List ℕ)) → ℕ
@@ -17,13 +19,9 @@ pub size_left_less : (rest more : Option (Bor (List ℕ))) (text : Bor (List ℕ
 size_left_less rest None text is shorter = rw is (omega arith)
 size_left_less rest (Some m) text is shorter = rw is (omega (arith, shorter))
 
--- the parts of a text are some
-parts-some : (separator : ℕ) (bytes : List ℕ) → 0 < length (parts separator bytes)
-parts-some separator bytes = omega (arith, length-slice_split (λ c. c == separator) bytes)
-
 -- some bytes at least are a word
 pub no_word_parts : (bytes : List ℕ) → no_word (parts 32 bytes) ≡ Err Form
-no_word_parts bytes = by (parts 32 bytes) (parts-some 32 bytes)
+no_word_parts bytes = by (parts 32 bytes) (parts_some 32 bytes)
   where
     by : (words : List (List ℕ)) → 0 < length words → no_word words ≡ Err Form
     by [] some = absurd (omega arith)
@@ -31,8 +29,40 @@ no_word_parts bytes = by (parts 32 bytes) (parts-some 32 bytes)
 
 -- a word and the parts after it are more than one
 pub one_of_parts : (separator : ℕ) (word bytes : List ℕ) → one_of (word ∷ parts separator bytes) ≡ None
-one_of_parts separator word bytes = by (parts separator bytes) (parts-some separator bytes)
+one_of_parts separator word bytes = by (parts separator bytes) (parts_some separator bytes)
   where
     by : (words : List (List ℕ)) → 0 < length words → one_of (word ∷ words) ≡ None
     by [] some = absurd (omega arith)
     by (next ∷ words) some = refl
+
+-- a line has one first word
+begins_same : (word other line : List ℕ) → begins_with word line ≡ true → begins_with other line ≡ same_word word other
+begins_same word other line e = by (parts 32 line) refl
+  where
+    by : (words : List (List ℕ)) → parts 32 line ≡ words → begins_with other line ≡ same_word word other
+    by [] is =
+        let begins = rw is at e in
+        let same : [] ≡ word = same_text [] word (sym begins) in
+        rw is (ap (λ w. same_word w other) same)
+    by (first ∷ rest) is =
+        let begins = rw is at e in
+        let same : first ≡ word = same_text first word (sym begins) in
+        rw is (ap (λ w. same_word w other) same)
+
+-- a line that begins with one word begins with no other
+pub begins_other : (word other line : List ℕ) → begins_with word line ≡ true → same_word word other ≡ false → begins_with other line ≡ false
+begins_other word other line e differ = begins_same word other line e ∙ differ
+
+-- the laws of words, numbers and addresses, in one record
+pub word_laws : WordLaws
+word_laws = record {
+  parts = joined-parts_pieces;
+  pieces = parts-joined;
+  numbers = number-Some;
+  spelled_numbers = number-decimal;
+  digits = digits-decimal;
+  addresses = address-Some;
+  spelled_addresses = address-spelled_address;
+  hex_digits = digits-hex;
+  prefixes = after_prefix-Some;
+}

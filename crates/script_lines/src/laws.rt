@@ -10,33 +10,12 @@ ghost use Rattle.script_lines.specs.declared.setup.Frame.{Frame};
 ghost use Rattle.script_lines.specs.Fields.{attrs_in, range_in};
 ghost use Rattle.script_lines.specs.Head.{attrs_line, cap_line, one_target, range_line, seed_line, target_line, unit_line};
 ghost use Rattle.script_lines.specs.Keys.{setting_of};
-ghost use Rattle.script_lines.specs.Laws.{NamesActions, ReadsOnly, ReadsOnlyCommands, ReadsOnlyParts, ReadsOnlySchemes, ReadsOnlySweeps, ReadsOnlyTouches, ReadsOnlyWords, WordLaws};
+ghost use Rattle.script_lines.specs.Laws.{NamesActions, ReadsOnly, ReadsOnlyCommands, ReadsOnlyParts, ReadsOnlySchemes, ReadsOnlySweeps, ReadsOnlyTouches, ReadsOnlyWords};
 ghost use Rattle.script_lines.specs.ReadBack.{LinesReadBack};
 ghost use Rattle.script_lines.specs.SchemeLine.{SchemesAreSaid};
 ghost use Rattle.script_lines.specs.Spelling.{spelled_attrs, spelled_range, spelled_setting, spelled_target};
 ghost use Rattle.script_lines.specs.Within.{LinesAreWithin};
 ghost use Rattle.script_lines.specs.WriteBack.{ChangesAreReadBack};
-
-use line_text::{
-    address_is_spelled, decimal_has_digits, decimal_is_read, number_is_decimal, parts_are_pieces,
-    pieces_are_parts, spelled_address_has_digits, spelled_address_is_read,
-    stripped_front_was_first,
-};
-
-// The laws of `line_text` on words, numbers and addresses, in one record.
-pub(crate) fn words_have_laws()
-    ensures laws { WordLaws }
-{
-    parts_are_pieces();
-    pieces_are_parts();
-    number_is_decimal();
-    decimal_is_read();
-    decimal_has_digits();
-    address_is_spelled();
-    spelled_address_is_read();
-    spelled_address_has_digits();
-    stripped_front_was_first();
-}
 
 /// The words after `attrs` and `range` that are accepted, in a setup and in a commit, are the
 /// spelling of what is read from them.
@@ -44,9 +23,7 @@ pub fn fields_are_spelled()
     ensures attrs { ReadsOnly attrs_in (λ a. decimal a.min ∷ decimal a.max ∷ decimal a.aggr ∷ []) }
     ensures range { ReadsOnly range_in (λ r.
         decimal r.target ∷ spelled_address r.from ∷ spelled_address r.to ∷ decimal r.class ∷ []) }
-{
-    words_have_laws();
-}
+{}
 
 /// A line of a setup that is accepted is the spelling of what it says, and so is that of the passes.
 pub fn setup_lines_are_spelled()
@@ -59,9 +36,7 @@ pub fn setup_lines_are_spelled()
     ensures range { (f : Frame) (targets : List Target) (before : List RangeSpec)
         → ReadsOnly (range_line f targets before) spelled_range }
     ensures passes { ReadsOnly passes_line (λ n. codes "passes " ++ decimal n) }
-{
-    words_have_laws();
-}
+{}
 
 /// A line of a setup that gives a slot a scheme is the spelling of a slot, an action and settings in
 /// order, which turn the action's default into that scheme. A word that is read as an action or a
@@ -70,9 +45,7 @@ pub fn schemes_are_spelled()
     ensures actions { NamesActions }
     ensures settings { ReadsOnly setting_of spelled_setting }
     ensures schemes { ReadsOnlySchemes }
-{
-    words_have_laws();
-}
+{}
 
 /// A line whose settings, one after another, turn the action's default into a scheme says that scheme by
 /// its keys, and a line that says a scheme by its keys has such settings.
@@ -89,25 +62,19 @@ pub fn body_lines_are_spelled()
     ensures touches { ReadsOnlyTouches }
     ensures sweeps { ReadsOnlySweeps }
     ensures parts { ReadsOnlyParts }
-{
-    words_have_laws();
-}
+{}
 
 /// Each line of a script that says something, with each number within its field and its limits, is
 /// read as what it says. With `body_lines_are_spelled`, a line of a body is read as a command exactly
 /// where it says that command, and a line of a commit likewise.
 pub fn spelled_lines_are_read()
     ensures lines { LinesReadBack }
-{
-    words_have_laws();
-}
+{}
 
 /// What is read from a line of a setup that is accepted is within its limits, and so are the passes.
 pub fn accepted_lines_are_within()
     ensures within { LinesAreWithin }
-{
-    words_have_laws();
-}
+{}
 
 /// The line that is written of a slot change says that change.
 pub fn written_changes_are_read_back()

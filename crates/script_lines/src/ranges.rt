@@ -7,10 +7,7 @@ ghost use Rattle.script_lines.specs.Spelling.{spelled_range};
 
 use crate::touches::leading_target;
 use damon_types::RangeSpec;
-use line_text::{
-    front_is_stripped, leading_address, leading_number, leading_numbers_are_read,
-    leading_numbers_are_spelled, strip,
-};
+use line_text::{leading_address, leading_number, strip};
 
 /// The range line at the front of a text, and the text after that line; `None` if no range line stands
 /// there. A shortcut before the reader of any line.
@@ -21,10 +18,6 @@ pub fn leading_range(text: &[u8]) -> Option<(RangeSpec, &[u8])>
         → text.now ≡ spelled_range range ++ 10 ∷ rest
         → option_map {U = range_spec × List ℕ} (λ x. (x.0, x.1.now)) result ≡ Some (range, rest) }
 {
-    // For their clauses alone: what numbers are read from.
-    leading_numbers_are_spelled();
-    leading_numbers_are_read();
-    front_is_stripped();
     let (target, words) = leading_target(text, b"range ")?;
     let (from, to, words) = leading_addresses(words)?;
     let (class, words) = leading_number(words, u64::from(u8::MAX))?;
@@ -39,6 +32,7 @@ pub fn leading_range(text: &[u8]) -> Option<(RangeSpec, &[u8])>
 }
 
 // Two addresses at the front of a text, each with a space after it, and the text after these.
+#[tactic(auto, using(line_text::proofs::Lemmas::leading_parts))]
 fn leading_addresses(text: &[u8]) -> Option<(u64, u64, &[u8])>
     ensures spelled { IfSome result (λ x. text.now
         ≡ spelled_address x.0 ++ (codes " " ++ (spelled_address x.1 ++ (codes " " ++ x.2.now)))) }
@@ -47,10 +41,6 @@ fn leading_addresses(text: &[u8]) -> Option<(u64, u64, &[u8])>
         → text.now ≡ spelled_address from ++ (codes " " ++ (spelled_address to ++ (codes " " ++ rest)))
         → option_map {U = ℕ × ℕ × List ℕ} (λ x. (x.0, x.1, x.2.now)) result ≡ Some (from, to, rest) }
 {
-    // For their clauses alone: what addresses are read from.
-    leading_numbers_are_spelled();
-    leading_numbers_are_read();
-    front_is_stripped();
     let (from, words) = leading_address(text)?;
     let words = strip(words, b" ")?;
     let (to, words) = leading_address(words)?;

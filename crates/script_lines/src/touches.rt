@@ -5,11 +5,8 @@ ghost use Rattle.damon_types.specs.Space.{pages_of};
 ghost use Rattle.line_text.specs.Leading.{view_leading};
 ghost use Rattle.script_lines.specs.Touches.{BeginsWithTouch};
 
-use damon_types::{Space, pages_rise};
-use line_text::{
-    front_is_stripped, leading_address, leading_number, leading_numbers_are_read,
-    leading_numbers_are_spelled, strip, stripped_front_was_first,
-};
+use damon_types::Space;
+use line_text::{leading_address, leading_number, strip};
 
 /// The page of the touch line at the front of a text, and the text after that line; `None` if no touch line
 /// of a page of the space stands there. A shortcut before the reader of any line.
@@ -19,11 +16,6 @@ pub fn leading_touch<'a>(space: &Space, text: &'a [u8]) -> Option<(u32, &'a [u8]
     ensures found { (page : ℕ) (rest : List ℕ) → BeginsWithTouch space.now text.now page rest
         → view_leading result ≡ Some (page, rest) }
 {
-    // For their clauses alone: what numbers are read from, and where pages end.
-    leading_numbers_are_spelled();
-    leading_numbers_are_read();
-    front_is_stripped();
-    pages_rise();
     let (target, words) = leading_target(text, b"touch ")?;
     let (addr, words) = leading_address(words)?;
     let rest = strip(words, b"\n")?;
@@ -33,6 +25,7 @@ pub fn leading_touch<'a>(space: &Space, text: &'a [u8]) -> Option<(u32, &'a [u8]
 
 // The target of a line that begins with this word and a space, and the text from its address on.
 #[inline(always)]
+#[tactic(auto, using(line_text::proofs::Lemmas::leading_parts))]
 pub(crate) fn leading_target<'a>(text: &'a [u8], word: &[u8]) -> Option<(u32, &'a [u8])>
     ensures spelled { IfSome result (λ x.
         text.now ≡ word.now ++ (decimal x.0 ++ (codes " " ++ x.1.now))) }
@@ -41,11 +34,6 @@ pub(crate) fn leading_target<'a>(text: &'a [u8], word: &[u8]) -> Option<(u32, &'
         → text.now ≡ word.now ++ (decimal target ++ (codes " " ++ rest))
         → view_leading result ≡ Some (target, rest) }
 {
-    // For their clauses alone: what numbers are read from, and what stands before what is left.
-    leading_numbers_are_spelled();
-    leading_numbers_are_read();
-    stripped_front_was_first();
-    front_is_stripped();
     let words = strip(text, word)?;
     let (target, words) = leading_number(words, u64::from(u32::MAX))?;
     let words = strip(words, b" ")?;

@@ -9,16 +9,16 @@ use Rattle.damon_admin.proofs.lines.take_line.Goals as goal
 
 pub returns-in_default-clause-fault : goal.returns-in_default-clause-fault
 returns-in_default-clause-fault c =
-    let line = c.split_front.result.0.now in
+    let line = c.split_line.result.0.now in
     let some : 0 < length c.args.text.now = grind (arith, nat_tests, c.if-is_empty.false, c.is_empty.ensures) in
-    line_cut c.args.number c.args.text.now line some (c.split_front.ensures.exact ∙ ap (λ r. line ∷ parts_left 10 (option_copied r)) c.in_default.is)
+    line_cut c.args.number c.args.text.now line some (c.split_line.ensures.exact ∙ ap (λ r. line ∷ parts_left 10 (option_copied r)) c.in_default.is)
 
 pub returns-in-Ok-clause-line : goal.returns-in-Ok-clause-line
 returns-in-Ok-clause-line c =
     let text = c.args.text.now in
-    let line = c.split_front.result.0.now in
+    let line = c.split_line.result.0.now in
     let rest = c.in-Some._rest.now in
-    let is : parts 10 text ≡ line ∷ parts 10 rest = c.split_front.ensures.exact ∙ ap (λ r. line ∷ parts_left 10 (option_copied r)) c.in-Some.is in
+    let is : parts 10 text ≡ line ∷ parts 10 rest = c.split_line.ensures.exact ∙ ap (λ r. line ∷ parts_left 10 (option_copied r)) c.in-Some.is in
     let said : context_line line ≡ Ok (line_value c.in-Ok.own) = sym c.in-Ok.ensures.exact in
     record {
       inside = front_used text line rest is;
@@ -29,7 +29,7 @@ returns-in-Ok-clause-line c =
 
 pub returns-in-Err-clause-fault : goal.returns-in-Err-clause-fault
 returns-in-Err-clause-fault c =
-    let line = c.split_front.result.0.now in
+    let line = c.split_line.result.0.now in
     let rest = c.in-Some._rest.now in
     line_refused c.args.number c.args.text.now line rest c.in-Err.kind
-    (c.split_front.ensures.exact ∙ ap (λ r. line ∷ parts_left 10 (option_copied r)) c.in-Some.is) (sym c.in-Err.ensures.exact)
+    (c.split_line.ensures.exact ∙ ap (λ r. line ∷ parts_left 10 (option_copied r)) c.in-Some.is) (sym c.in-Err.ensures.exact)

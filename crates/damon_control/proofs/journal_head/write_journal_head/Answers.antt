@@ -6,7 +6,7 @@ use Rattle.damon_control.specs.declared.grammar.Grammar.TheVariants.{OfJournal}
 use Rattle.damon_control.specs.JournalHead.{head_lines}
 use Rattle.damon_control.specs.Script.{header_of}
 use Rattle.damon_control.specs.Written.{written_setup}
-use Rattle.damon_control.proofs.WrittenLemmas.{lines_added}
+use Rattle.script_lines.proofs.Lemmas.{lines_added}
 use Rattle.damon_control.proofs.journal_head.write_journal_head.Goals as goal
 
 pub returns-clause-ok : goal.returns-clause-ok

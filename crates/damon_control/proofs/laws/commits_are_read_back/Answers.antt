@@ -11,5 +11,5 @@ returns c =
         one_more = c.next_decides.ensures.next;
         keeps_fault = c.fault_stays.ensures.first;
         apart = lines.apart;
-      }) c.written_changes_are_read_back.ensures.changes lines.together;
+      }) c.written_changes_are_read_back.ensures.changes;
     }

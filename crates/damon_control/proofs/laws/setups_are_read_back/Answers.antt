@@ -14,6 +14,6 @@ returns c =
     } in
     let back = c.written_changes_are_read_back.ensures.changes in
     record {
-      back = setup_read_back laws back lines.together;
-      live = live_setup_read_back laws back lines.together;
+      back = setup_read_back laws back;
+      live = live_setup_read_back laws back;
     }

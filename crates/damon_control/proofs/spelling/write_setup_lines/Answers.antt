@@ -6,7 +6,7 @@ use Rattle.script_lines.specs.Spelling.{spelled_range, spelled_target}
 use Rattle.script_lines.specs.Lines.{lines_text}
 use Rattle.script_lines.specs.WrittenLine.{change_text}
 use Rattle.damon_control.specs.Written.{number_lines, setup_text, spec_of}
-use Rattle.damon_control.proofs.WrittenLemmas.{lines_added}
+use Rattle.script_lines.proofs.Lemmas.{lines_added}
 use Rattle.damon_control.proofs.spelling.write_setup_lines.Goals as goal
 
 pub returns-clause-ok : goal.returns-clause-ok

@@ -20,7 +20,7 @@ loop-index-preserved c =
     let i : ℕ = c.loop-index.index in
     let v : ℕ = c.loop-index.value in
     let digit : hex_digit (slice_index_or bytes i 0) ≡ Some c.in-Some.digit = sym c.in-Some.ensures.exact in
-    let next = take_while-pass is_hex_digit i bytes c.loop-index-test.true (ap is_some digit) in
+    let next = take_while-pass is_hex_digit i bytes (omega arith) (ap is_some digit) in
     let rest : List ℕ = leading_hex_digits (drop (i + 1) bytes) in
     record {
       value = c.loop-index.invariant.value ∙ ap (hex_on v) next ∙ ap (option_and_then (λ d. hex_on (16 * v + d) rest)) digit

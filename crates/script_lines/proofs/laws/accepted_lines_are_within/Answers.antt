@@ -3,12 +3,13 @@ use Rattle.script_lines.specs.Words.{arguments, number_32, one_word}
 use Rattle.script_lines.specs.Refusal.{◌>>=◌}
 use Rattle.script_lines.proofs.LineLimits.{cap_sound, limits_sound, range_follows, scheme_sound, seed_fits, target_sound, unit_sound}
 use Rattle.script_lines.proofs.SpellLines.{limited-bounds}
+use Rattle.script_lines.proofs.WordLemmas.{word_laws}
 use Rattle.script_lines.proofs.laws.accepted_lines_are_within.Goals as goal
 
 pub returns : goal.returns
 returns c = record {
   within = record {
-    seed = seed_fits c.words_have_laws.ensures.laws;
+    seed = seed_fits word_laws;
     unit = unit_sound;
     cap = cap_sound;
     attrs = limits_sound;

@@ -28,17 +28,13 @@ returns-clause-line c = λ went.
     let p = c.self.inside in
     let context = c.in-Ok-Some.taken.own.context in
     let x = c.args.out.now.items in
-    let y = c.extend_from_slice.new.self.items in
+    let y = c.speak.new.out.items in
     let ready : p.failed ≡ false = ap (λ v. v.failed) c.self.view_is ∙ c.requires in
     let read = rw c.in-Ok-Some.field-0-is at c.in-Ok-Some.ensures.line in
     let taken = subst (λ b. IsTaken 0 b c.in-Ok-Some.taken) (c.rest_from.ensures ∙ ap (drop p.at) c.deref.ensures.value) read in
     let is = subst (λ f. IsAdmin p.input.items p.at p.done f p.contexts.items) ready c.self.invariant in
     let grew : y ≡ x ++ spoken context c.go_on_at.new.out.items =
-    c.in_ok-extend_from_slice.ensures.items
-    ∙ ap (λ t. x ++ t) (c.deref-3.ensures.value
-    ∙ c.in_ok-speak.ensures
-    ∙ ap (λ t. t ++ spoken context c.deref-2.result.now) c.clear-2.ensures.items
-    ∙ ap (spoken context) c.deref-2.ensures.value) in
+    c.in_ok-speak.ensures.ok ∙ ap (λ t. x ++ spoken context t) c.deref-2.ensures.value in
     subst (λ v. DoesLine v (admin_of p.input.items (p.done + 1) false) x y) (ap (λ f. admin_of p.input.items p.done f) (sym ready) ∙ c.self.view_is)
     (line_done p.input.items p.at p.done p.contexts.items c.in-Ok-Some.taken is taken c.go_on_at.new.contexts.items c.go_on_at.new.out.items x y
     c.in_ok-go_on_at.ensures.on grew)

@@ -5,8 +5,8 @@ use Rattle.damon_control.proofs.lines.Lines.take_touch.Goals as goal
 
 pub returns-clause-said : goal.returns-clause-said
 returns-clause-said c = λ b same.
-    reads_touch c.lines_have_laws.ensures.laws _ _ _ _ c.in_ok-page.ensures.line (c.args.self.now.taken + 1) b same
+    reads_touch _ _ _ _ c.in_ok-page.ensures.line (c.args.self.now.taken + 1) b same
 
 pub returns-clause-live : goal.returns-clause-live
 returns-clause-live c = λ v ws t same.
-    reads_live_touch c.lines_have_laws.ensures.laws _ _ _ _ c.in_ok-page.ensures.line (c.args.self.now.taken + 1) v ws t same
+    reads_live_touch _ _ _ _ c.in_ok-page.ensures.line (c.args.self.now.taken + 1) v ws t same
