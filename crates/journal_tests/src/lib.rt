@@ -1,5 +1,4 @@
-//! Tests of the journal; its check is tested beside the runs that write such texts. They stand in a crate of
-//! their own, since a crate with tests is proved twice.
+//! Tests of the journal; its check is tested beside the runs that write such texts.
 #![tactic(auto)]
 
 /// A journal and its text.
