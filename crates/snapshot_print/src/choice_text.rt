@@ -10,7 +10,7 @@ use crate::fields::{field_before, text_before, word_before};
 use crate::line_groups::{LineOf, print_lines};
 use crate::page_run::PageRun;
 use crate::row_text::pages_before;
-use damon_types::{Action, MAX_SLOT, Space};
+use damon_types::{Action, Space};
 use line_text::number_before;
 use scheme_engine::{Applied, AppliedRun, Engine, SlotChoice};
 use std::alloc::AllocError;
@@ -77,9 +77,7 @@ fn print_choice(
 pub(crate) fn action_in(engine: &Engine, slot: u8) -> Option<Action>
     ensures { result ≡ action_in engine.now.slots slot }
 {
-    // For its clauses alone: the number of slots.
-    let _cap = engine.cap();
-    if slot > MAX_SLOT {
+    if usize::from(slot) >= engine.slots() {
         return None;
     }
     engine.slot(slot).map(|view| view.action)

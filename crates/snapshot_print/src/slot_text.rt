@@ -6,7 +6,7 @@ ghost use Rattle.line_text.specs.Appended.{KeepsFront};
 
 use crate::fields::{field_before, text_before, word_before, yes_or_no};
 use damon_types::MAX_SLOT;
-use scheme_engine::{Engine, SLOTS, SlotView};
+use scheme_engine::{Engine, SlotView};
 use std::alloc::AllocError;
 
 // Bytes enough for the line of a set slot, which has at most 191.
@@ -18,9 +18,7 @@ pub(crate) fn print_slots(out: &mut Vec<u8>, engine: &Engine) -> Result<(), Allo
     ensures ok { OnOk result (out.new.items ≡ out.old.items ++ shown_slots 0 engine.now.slots) }
     ensures kept { KeepsFront out.old.items out.new.items }
 {
-    // For its clauses alone: the number of slots.
-    let _cap = engine.cap();
-    for slot in 0..SLOTS {
+    for slot in 0..engine.slots() {
         print_slot(out, slot as u8, engine)?;
     }
     Ok(())
