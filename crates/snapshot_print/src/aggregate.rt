@@ -9,14 +9,13 @@ ghost use Rattle.snapshot_print.specs.Printed.{printed_monitor};
 
 use crate::Form;
 use crate::choice_text::print_choices;
-use crate::fields::{field_before, text_before};
 use crate::json_lines::print_aggregate_line;
 use crate::line_groups::LINE_ROOM;
 use crate::row_groups::{print_rows_from, rows_before};
 use crate::row_text::print_rows;
 use damon_core::{Monitor, Report};
 use damon_types::Space;
-use line_text::whole_or_nothing;
+use line_text::{field_before, text_before, whole_or_nothing};
 use std::alloc::{AllocError, Global};
 
 /// Appends the text of the last aggregation: a line with its tick, its threshold and the number of

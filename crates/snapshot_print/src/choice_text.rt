@@ -6,12 +6,12 @@ ghost use Rattle.snapshot_print.specs.Fields.{number_or_none};
 ghost use Rattle.snapshot_print.specs.Schemes.{action_in, apply_line, apply_part, choice_lines, choice_part, choices_text, run_part, runs_of_slot, slot_line, taken_part};
 ghost use Rattle.line_text.specs.Appended.{KeepsFront};
 
-use crate::fields::{field_before, text_before, word_before};
+use crate::fields::word_before;
 use crate::line_groups::{LineOf, print_lines};
 use crate::page_run::PageRun;
 use crate::row_text::pages_before;
 use damon_types::{Action, Space};
-use line_text::number_before;
+use line_text::{field_before, number_before, text_before};
 use scheme_engine::{Applied, AppliedRun, Engine, SlotChoice};
 use std::alloc::AllocError;
 

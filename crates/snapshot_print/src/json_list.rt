@@ -5,8 +5,8 @@ ghost use Rattle.std.specs.Fmt.{decimal};
 ghost use Rattle.line_text.specs.Address.{spelled_address};
 ghost use Rattle.line_text.specs.Appended.{KeepsFront};
 
-use crate::fields::{short_field_before, text_before};
-use crate::row_text::address_field_before;
+use crate::fields::short_field_before;
+use line_text::{address_field_before, text_before};
 use std::alloc::AllocError;
 
 // Makes a list of the items from index `start` on, which each begin with a comma: the first comma becomes

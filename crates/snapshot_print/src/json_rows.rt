@@ -12,8 +12,8 @@ use crate::json_list::{close_list, start_before};
 use crate::line_groups::LineOf;
 use crate::page_run::PageRun;
 use crate::row_groups::print_rows_from;
-use crate::row_text::address_field_before;
 use damon_types::{Row, Space};
+use line_text::address_field_before;
 use region_list::RowBuf;
 use std::alloc::AllocError;
 

@@ -8,12 +8,12 @@ ghost use Rattle.line_text.specs.Appended.{KeepsFront};
 ghost use Rattle.snapshot_print.specs.Pieces.{piece, run_prefix, run_parts, run_rest};
 
 use crate::choice_text::{action_in, count_runs};
-use crate::fields::{short_field_before, text_before, word_before};
+use crate::fields::{short_field_before, word_before};
 use crate::json_list::{close_list, start_before};
 use crate::line_groups::{LineOf, print_lines};
 use crate::page_run::PageRun;
 use damon_types::{Action, Space};
-use line_text::address_before;
+use line_text::{address_before, text_before};
 use scheme_engine::{AppliedRun, Engine};
 use std::alloc::AllocError;
 

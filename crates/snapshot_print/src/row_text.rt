@@ -1,17 +1,15 @@
 ghost use Rattle.std.specs.Prelude.{◌≡◌, ◌+◌, ◌*◌, ◌≤◌, ◌++◌, length, drop, OnOk};
 ghost use Rattle.std.specs.List.{AllByRecursion};
 ghost use Rattle.damon_types.specs.Space.{pages_of};
-ghost use Rattle.line_text.specs.Address.{spelled_address};
 ghost use Rattle.snapshot_print.specs.Fields.{pages_part};
 ghost use Rattle.snapshot_print.specs.Lines.{count_part, place_part, row_line, row_lines};
 ghost use Rattle.line_text.specs.Appended.{KeepsFront};
 
-use crate::fields::{field_before, text_before};
 use crate::line_groups::LineOf;
 use crate::page_run::PageRun;
 use crate::row_groups::print_rows_from;
 use damon_types::{Row, Space};
-use line_text::address_before;
+use line_text::{address_field_before, field_before, text_before};
 use region_list::RowBuf;
 use std::alloc::AllocError;
 
@@ -84,18 +82,4 @@ pub(crate) fn pages_before(bytes: &mut [u8], end: usize, run: PageRun, space: &S
     let (from, to) = run.addresses(space);
     let last = address_field_before(bytes, end, b"-", to);
     address_field_before(bytes, last, b" ", from)
-}
-
-// Writes a field's name and an address.
-#[inline(always)]
-pub(crate) fn address_field_before(bytes: &mut [u8], end: usize, name: &[u8], value: u64) -> usize
-    requires room { length name.now + 18 ≤ end }
-    requires within { end ≤ length bytes.old }
-    ensures start { result ≤ end }
-    ensures most { end ≤ result + (length name.now + 18) }
-    ensures written { drop result bytes.new
-        ≡ name.now ++ (spelled_address value ++ drop end bytes.old) }
-{
-    let address = address_before(bytes, end, value);
-    text_before(bytes, address, name)
 }

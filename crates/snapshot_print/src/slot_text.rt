@@ -4,8 +4,9 @@ ghost use Rattle.scheme_engine.specs.Slots.{empty_slot};
 ghost use Rattle.snapshot_print.specs.Schemes.{scheme_line, scheme_part, shown_slot, shown_slots, statistics_part};
 ghost use Rattle.line_text.specs.Appended.{KeepsFront};
 
-use crate::fields::{field_before, text_before, word_before, yes_or_no};
+use crate::fields::{word_before, yes_or_no};
 use damon_types::MAX_SLOT;
+use line_text::{field_before, text_before};
 use scheme_engine::{Engine, SlotView};
 use std::alloc::AllocError;
 
