@@ -1,7 +1,7 @@
-//! Tests of the journal; its check is tested beside the runs that write such texts.
+//! Tests of the journal in memory; texts of journals are tested beside the runs that write them.
 #![tactic(auto)]
 
-/// A journal and its text.
+/// A journal and its receipts.
 #[cfg(test)]
 mod journal;
 /// Random words by their position.
