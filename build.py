@@ -5,8 +5,8 @@
 
 PROGRAM is a crate of `crates.txt`, by default `damon`. Its crates are proved in an order in which each comes
 after those that it uses: as many at the same time as there are processors (or N) and memory for, and first those
-with the longest chain of others behind them. A crate that no other one waits for gets the idle processors too.
-What a proof takes was measured: `building/costs.csv` has the seconds and the memory of each crate.
+with the longest chain of others behind them. Processors that are idle are given to a crate that ends sooner with
+them. What a proof takes was measured: `building/costs.csv` has the seconds and the memory of each crate.
 
 `rt` locks a crate and all those below it while it works, so two runs over one lower crate would wait for each
 other. Each crate is therefore proved in a folder of its own, in which the crates below it are hard links, and what
@@ -113,6 +113,7 @@ class Build:
         jobs = min(MOST_JOBS, -(-idle // ready))
         if leads and self.jobs > 2:
             jobs = max(jobs, min(2, idle))
+        jobs = self.crates[name].worth(jobs)
         while jobs > 1 and self.crates[name].memory(jobs) > room:
             jobs -= 1
         folder = self._folder_for(name)
@@ -236,18 +237,19 @@ def build(program: str, jobs: Optional[int]) -> int:
         except Killed as name:
             progress.close()
             print(f"the proof of {name} was killed: the others follow one by one", file=sys.stderr)
-            jobs = 1
-    return finish(program, jobs, work.sums[program], progress)
+    return finish(program, work.sums[program], progress)
 
 
-def finish(program: str, jobs: int, total: str, progress: Progress) -> int:
+def finish(program: str, total: str, progress: Progress) -> int:
     """Builds the program in its place, over the libraries that are built, and notes of which sources it is."""
     begun = time.monotonic()
     progress.under_way([program])
+    # A program has a few lines over all other crates. Each process would read those for itself, so with several the
+    # proof would end no sooner, and take as much more processor time and memory.
     # `rt run` also runs what it built. `build` is no command of damon, so that run reads nothing and ends with
     # status 2; whether the build worked is told by the program being there.
     ran = subprocess.run(
-        ["rt", "run", "--jobs", str(min(jobs, MOST_JOBS)), "--", "build"],
+        ["rt", "run", "--jobs", "1", "--", "build"],
         cwd=CRATES / program,
         stdin=subprocess.DEVNULL,
         stdout=subprocess.PIPE,

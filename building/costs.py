@@ -18,6 +18,12 @@ LEAST_MEMORY = 1_000_000_000
 LINE_OF_CODE = 800_000
 LINE_OF_PROOF = 100_000
 LINE_BELOW = 100_000
+# Several processes share what a crate itself has, about these seconds for a line of its code and its proofs. All
+# else each of them does for itself, above all reading what stands below: that is nearly all the time of a program of
+# a few lines. docs/PERFORMANCE.md has what proofs took with one process and with four.
+SHARED_SECONDS_OF_LINE = 0.015
+# A process more is worth its memory if the proof ends sooner by this part of the time.
+LEAST_GAIN = 0.1
 
 
 class Cost(NamedTuple):
@@ -52,20 +58,31 @@ def estimated(lines: Lines) -> Cost:
     return Cost(SECONDS_OF_LINE * (lines.code + lines.proofs), memory)
 
 
+def worth(seconds: float, lines: int, most: int) -> int:
+    """How many processes, at most this number, a proof is worth that takes these seconds with one."""
+    shared = min(seconds, SHARED_SECONDS_OF_LINE * lines)
+    processes = 1
+    while processes < most and _wait(seconds, shared, processes + 1) <= (1 - LEAST_GAIN) * _wait(seconds, shared, processes):
+        processes += 1
+    return processes
+
+
+def _wait(seconds: float, shared: float, processes: int) -> float:
+    """How long a proof takes, of whose seconds with one process some are shared."""
+    return seconds - shared + shared / processes
+
+
 def expected_seconds(order: Iterable[str], uses: Callable[[str], List[str]], seconds: Dict[str, float], processors: int) -> float:
     """How long it takes to prove crates in this order with this number of processors.
 
-    A crate begins as soon as those that it uses are done and a processor is idle, and has one processor, but that
-    the last one has them all. Crates that are not in `order` are done at the start.
+    A crate begins as soon as those that it uses are done and a processor is idle, and has one processor. Crates
+    that are not in `order` are done at the start.
     """
     idle = [0.0] * processors
     done: Dict[str, float] = {}
-    names = list(order)
-    for name in names:
+    for name in order:
         ready = max((done.get(used, 0.0) for used in uses(name)), default=0.0)
-        begin = max(ready, min(idle))
-        took = seconds[name] / (processors if name == names[-1] else 1)
+        done[name] = max(ready, min(idle)) + seconds[name]
         idle.remove(min(idle))
-        done[name] = begin + took
         idle.append(done[name])
     return max(done.values(), default=0.0)

@@ -7,21 +7,26 @@ from .costs import Cost
 
 TOP = Path(__file__).resolve().parent.parent
 CRATES = TOP / "crates"
-# Another process takes this part of the memory of the first one.
-PART_OF_A_JOB = 0.6
+# Another process takes about as much memory as the first one.
+PART_OF_A_JOB = 1.0
 
 
 class Crate(NamedTuple):
-    """A crate: its line of `crates.txt`, the crates of the repository that it uses, and the cost of its proof."""
+    """A crate: its line of `crates.txt`, the crates of the repository that it uses, the cost of its proof, and its lines."""
 
     name: str
     line: str
     uses: List[str]
     cost: Cost
+    lines: int
 
     def memory(self, jobs: int) -> float:
         """The bytes that its proof may take with this number of processes."""
         return self.cost.memory * (1 + PART_OF_A_JOB * (jobs - 1))
+
+    def worth(self, jobs: int) -> int:
+        """How many processes its proof is worth, at most this number."""
+        return costs.worth(self.cost.seconds, self.lines, jobs)
 
 
 # By name, each crate after those that it uses.
@@ -42,9 +47,10 @@ def crates_for(program: str) -> Crates:
             for used in uses:
                 add(used)
             code[name] = lines_in(name, ".rt")
-            under = sum(code[it] for it in below(name, {**found, name: Crate(name, "", uses, Cost(0, 0))}))
-            cost = known.get(name) or costs.estimated(costs.Lines(code[name], lines_in(name, ".antt"), under))
-            found[name] = Crate(name, listed[name], uses, cost)
+            under = sum(code[it] for it in below(name, {**found, name: Crate(name, "", uses, Cost(0, 0), 0)}))
+            proofs = lines_in(name, ".antt")
+            cost = known.get(name) or costs.estimated(costs.Lines(code[name], proofs, under))
+            found[name] = Crate(name, listed[name], uses, cost, code[name] + proofs)
 
     add(program)
     return found

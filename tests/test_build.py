@@ -91,6 +91,14 @@ class Building(unittest.TestCase):
         command = [*program, str(self.top / words[0]), *words[1:]]
         return subprocess.run(command, env=given, capture_output=True, text=True)
 
+    def measured(self, seconds: Dict[str, float], gigabytes: float = 1) -> None:
+        """What the proofs of crates took, as the build knows it."""
+        rows = "".join(f"{name},{took},{gigabytes}\n" for name, took in seconds.items())
+        (self.top / "building/costs.csv").write_text(f"crate,seconds,gigabytes\n{rows}")
+
+    def jobs(self) -> Dict[str, int]:
+        return {name: run.jobs for name, run in self.runs().items()}
+
     def runs(self) -> Dict[str, Run]:
         lines = (self.top / "notes").read_text().splitlines()
         return {run.name: run for run in (Run(*json.loads(line)) for line in lines)}
@@ -112,9 +120,18 @@ class Building(unittest.TestCase):
         self.assertEqual(done.returncode, 0, done.stderr)
 
     def test_idle_processors_go_to_a_crate_that_stands_alone(self) -> None:
+        # Of a line, all these seconds are shared.
+        self.measured({name: 0.01 for name in CRATES})
         self.run_it("build.py", "--jobs", "4")
-        self.assertEqual({name: run.jobs for name, run in self.runs().items()},
-                         {"low": 4, "left": 2, "right": 2, "high": 4, "damon": 4})
+        self.assertEqual(self.jobs(), {"low": 4, "left": 2, "right": 2, "high": 4, "damon": 1})
+
+    def test_a_crate_that_would_not_end_sooner_has_one_process(self) -> None:
+        # A thousand lines share 15 seconds: of 20 that leaves 12.5, 10 and 8.75 with two to four processes, of 100 it leaves 92.5.
+        for name in ("low", "high"):
+            (self.top / f"crates/{name}/src/lib.rt").write_text("// a line\n" * 1000)
+        self.measured({"low": 20, "left": 10, "right": 10, "high": 100, "damon": 10})
+        self.run_it("build.py", "--jobs", "4")
+        self.assertEqual(self.jobs(), {"low": 4, "left": 1, "right": 1, "high": 1, "damon": 1})
 
     def test_one_processor_builds_one_crate_at_a_time(self) -> None:
         self.run_it("build.py", "--jobs", "1")
@@ -131,14 +148,12 @@ class Building(unittest.TestCase):
         self.assertRegex(lines[5], r"^crate 5 of 5: damon, \d s \(100% after 0:0\d min of about 0\)$")
 
     def test_the_wait_is_told_by_what_was_measured(self) -> None:
-        costs = "crate,seconds,gigabytes\nlow,600,1.0\nleft,300,1.0\nright,1200,1.0\nhigh,60,1.0\ndamon,60,1.0\n"
-        (self.top / "building/costs.csv").write_text(costs)
-        # The longest chain, low, right, high and then damon on both processors, decides how long two processors take.
+        self.measured({"low": 600, "left": 300, "right": 1200, "high": 60, "damon": 60})
+        # The longest chain, low, right, high and then damon, decides how long two processors take.
         self.assertIn("in about 32 minutes", self.run_it("build.py", "--jobs", "2").stderr)
 
     def test_crates_with_too_little_memory_are_proved_one_after_another(self) -> None:
-        huge = "crate,seconds,gigabytes\n" + "".join(f"{name},10,900000.0\n" for name in CRATES)
-        (self.top / "building/costs.csv").write_text(huge)
+        self.measured({name: 10 for name in CRATES}, gigabytes=900000)
         self.assertEqual(self.run_it("build.py", "--jobs", "4").returncode, 0)
         runs = sorted(self.runs().values(), key=lambda run: run.begun)
         self.assertTrue(all(first.ended <= second.begun for first, second in zip(runs, runs[1:])))
@@ -192,7 +207,6 @@ class Building(unittest.TestCase):
         done = self.run_it("build.py", "--jobs", "4", KILLED_CRATE="high")
         self.assertEqual(done.returncode, 0, done.stderr)
         self.assertIn("the proof of high was killed", done.stderr)
-        self.assertEqual(self.runs()["damon"].jobs, 1)
 
     def test_what_was_built_stands_in_each_crate(self) -> None:
         self.run_it("build.py", "--jobs", "2")

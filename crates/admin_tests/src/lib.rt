@@ -1,4 +1,4 @@
-//! Tests of several contexts. They stand in a crate of their own, since a crate with tests is proved twice.
+//! Tests of several contexts.
 #![tactic(auto)]
 
 /// Contexts whose lines come in turn.

@@ -145,6 +145,15 @@ impl Space {
         self.targets[index as usize]
     }
 
+    /// The first page of the target with this index, which must be below [`Space::targets`].
+    pub fn first_page(&self, index: u32) -> u32
+        requires { index < length self.now }
+        ensures first { result ≡ offset self.now index }
+        ensures sound { IsSpace self.now }
+    {
+        self.offsets[index as usize]
+    }
+
     /// The page that holds the byte at an address of a target, or `None` if there is no such target
     /// or the byte is outside its pages.
     pub fn page_of(&self, target: u32, addr: u64) -> Option<u32>

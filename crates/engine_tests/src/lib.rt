@@ -1,5 +1,4 @@
-//! Tests of the scheme engine, and of the sums by which it chooses pages. They stand in a crate of their own,
-//! since a crate with tests is proved twice.
+//! Tests of the scheme engine, and of the sums by which it chooses pages.
 #![tactic(auto)]
 
 /// A scheme that is run on rows without a monitor.

@@ -1,5 +1,5 @@
 -- Adding row after row.
-use Rattle.std.proofs.Common.{◌≡◌, ℕ, ◌+◌, ◌*◌, ◌≤◌, ◌<◌, ◌^◌, List, [], ◌∷◌, length, refl, sym, subst, arith, mul-le-mul_right}
+use Rattle.std.proofs.Common.{◌≡◌, ℕ, suc, ◌+◌, ◌*◌, ◌≤◌, ◌<◌, ◌^◌, List, [], ◌∷◌, length, drop, drop-cons, ap, ◌∙◌, refl, sym, subst, arith, mul-le-mul_right}
 use Rattle.std.specs.Prelude.{sum, slice_index}
 use Rattle.std.specs.List.{AllByRecursion}
 use Rattle.std.proofs.lemmas.List.Sums.{sum_by-cons}
@@ -7,10 +7,17 @@ use Rattle.damon_types.specs.declared.attrs.TheConstants.{MAX_AGGR}
 use Rattle.damon_types.specs.declared.row.Row.{Row}
 use Rattle.damon_types.specs.RowPages.{row_pages}
 use Rattle.region_list.specs.Find.{AscendFrom}
+use Rattle.region_list.specs.Rows.{no_row, row_at}
 use Rattle.heat_report.specs.Heat.{border}
 use Rattle.heat_report.specs.Overlap.{added, pages_in}
 use Rattle.heat_report.proofs.Adding.{no_heat}
 use Rattle.heat_report.proofs.Borders.{border_last, borders_rise}
+
+-- a row that was read, and those after it
+pub row_read : (rows : List Row) (i : ℕ) (r : Row) → i < length rows → r ≡ row_at rows i → drop i rows ≡ r ∷ drop (i + 1) rows
+row_read rows i r below is =
+    let next : suc i ≡ i + 1 = omega arith in
+    drop-cons rows i no_row below ∙ ap (λ s. s ∷ drop (suc i) rows) (sym is) ∙ ap (λ n. r ∷ drop n rows) next
 
 -- rows that ascend from a page ascend from each page before it
 pub ascend_weaker : (p q : ℕ) (rows : List Row) → q ≤ p → AscendFrom p rows → AscendFrom q rows

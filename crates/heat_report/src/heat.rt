@@ -2,7 +2,6 @@
 ghost use Rattle.std.specs.Prelude.{◌≡◌, ℕ, ◌+◌, ◌*◌, ◌≤◌, ◌<◌, ◌^◌, List, length, replicate, slice_index, sum, take, drop};
 ghost use Rattle.std.specs.List.{AllByRecursion};
 ghost use Rattle.damon_types.specs.declared.attrs.TheConstants.{MAX_AGGR};
-ghost use Rattle.damon_types.specs.Space.{offset};
 ghost use Rattle.damon_types.specs.RowPages.{row_pages};
 ghost use Rattle.region_list.specs.Find.{AscendFrom};
 ghost use Rattle.heat_report.specs.InSpace.{LieIn};
@@ -28,10 +27,8 @@ pub fn heat_row<const N: usize>(rows: &RowBuf, space: &Space, target: u32, out: 
     requires counts { AllByRecursion (λ r. r.count ≤ MAX_AGGR) rows.now.rows }
     ensures { out.new ≡ target_heats rows.now.rows space.now target N }
 {
-    // For its clause alone: the targets are within their limits.
-    let _count = space.targets();
     let columns = Columns {
-        first: first_page(space, target),
+        first: space.first_page(target),
         pages: space.target(target).pages,
         number: N as u32,
     };
@@ -39,34 +36,18 @@ pub fn heat_row<const N: usize>(rows: &RowBuf, space: &Space, target: u32, out: 
     add_rows(rows, from, &columns, out);
 }
 
-// The number of the first page of a target.
-fn first_page(space: &Space, target: u32) -> u32
-    requires { target < length space.now }
-    ensures { result ≡ offset space.now target }
-{
-    // For its clause alone: the targets are within their limits.
-    let _count = space.targets();
-    match space.page_of(target, space.target(target).base) {
-        Some(first) => first,
-        // The first byte of a target lies in its first page.
-        None => unreachable!(),
-    }
-}
-
 // The number of rows that begin before a page. They are the first rows.
-fn rows_before(rows: &RowBuf, page: u32) -> u32
+fn rows_before(rows: &RowBuf, page: u32) -> usize
     requires { AscendFrom 0 rows.now.rows }
     ensures within { result ≤ length rows.now.rows }
     ensures before { AllByRecursion (λ r. r.start < page) (take result rows.now.rows) }
     ensures after { AscendFrom page (drop result rows.now.rows) }
 {
-    // For its clause alone: the number of rows is a u32.
-    let _len = rows.len();
-    rows.starts().partition_point(|start| *start < page) as u32
+    rows.starts().partition_point(|start| *start < page)
 }
 
 // Adds the heat of the rows from index `from` on, which begin at or after the first page.
-fn add_rows<const N: usize>(rows: &RowBuf, from: u32, columns: &Columns, out: &mut Histogram<N>)
+fn add_rows<const N: usize>(rows: &RowBuf, from: usize, columns: &Columns, out: &mut Histogram<N>)
     requires some { 1 ≤ N }
     requires few { N ≤ 4096 }
     requires number { columns.now.number ≡ N }
@@ -84,8 +65,8 @@ fn add_rows<const N: usize>(rows: &RowBuf, from: u32, columns: &Columns, out: &m
     let end = columns.first + columns.pages;
     let mut column = 0;
     let mut index = from;
-    'rows: while index < rows.len() {
-        let row = rows.next(index);
+    'rows: while index < rows.count() {
+        let row = rows.at(index);
         if row.start >= end {
             break;
         }

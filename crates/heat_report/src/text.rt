@@ -116,7 +116,7 @@ fn append_heat_line<const N: usize>(
     heat_row(rows, space, target, &mut heat);
     append_field(out, b"heat ", tick)?;
     append_field(out, b" ", u64::from(target))?;
-    append_numbers(&heat, out)
+    append_numbers(heat.sums(), out)
 }
 
 // Appends the line of the frequencies.
@@ -133,7 +133,7 @@ fn append_freq_line(
     let mut tenths = Histogram::<11>::new();
     freq(rows, aggr, &mut tenths);
     append_field(out, b"freq ", tick)?;
-    append_numbers(&tenths, out)
+    append_numbers(tenths.sums(), out)
 }
 
 // Appends the line of the working set.
@@ -171,20 +171,13 @@ fn append_spread(spread: Option<Spread>, out: &mut Vec<u8>) -> Result<(), AllocE
     append_field(out, b" greatest=", spread.greatest)
 }
 
-// Appends the numbers of a histogram, each after a space, and the line's end.
-fn append_numbers<const N: usize>(
-    histogram: &Histogram<N>,
-    out: &mut Vec<u8>,
-) -> Result<(), AllocError>
-    requires { N ≤ 4096 }
-    ensures ok { OnOk result (out.new.items
-        ≡ out.old.items ++ (numbers histogram.now ++ codes "\n")) }
+// Appends numbers, each after a space, and the line's end.
+fn append_numbers(sums: &[u64], out: &mut Vec<u8>) -> Result<(), AllocError>
+    ensures ok { OnOk result (out.new.items ≡ out.old.items ++ (numbers sums.now ++ codes "\n")) }
     ensures kept { KeepsFront out.old.items out.new.items }
 {
-    // For its clause alone: the histogram has N numbers.
-    let _none = histogram.from(N as u32);
-    for index in 0..N as u32 {
-        append_field(out, b" ", histogram.sum(index))?;
+    'sums: for sum in sums {
+        append_field(out, b" ", *sum)?;
     }
     end_line(out)
 }

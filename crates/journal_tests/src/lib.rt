@@ -1,8 +1,7 @@
-//! Tests of the journal; its check is tested beside the runs that write such texts. They stand in a crate of
-//! their own, since a crate with tests is proved twice.
+//! Tests of the journal in memory; texts of journals are tested beside the runs that write them.
 #![tactic(auto)]
 
-/// A journal and its text.
+/// A journal and its receipts.
 #[cfg(test)]
 mod journal;
 /// Random words by their position.

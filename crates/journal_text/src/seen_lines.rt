@@ -7,8 +7,9 @@ ghost use Rattle.script_lines.specs.Lines.{lines_text};
 ghost use Rattle.script_lines.specs.Words.{same_word};
 ghost use Rattle.journal_text.specs.Spelled.{spelled_seen};
 
-use crate::line_parts::{address_field_before, field_before, text_before, without_end};
+use crate::line_parts::without_end;
 use damon_types::Space;
+use line_text::{address_field_before, field_before, text_before};
 use run_journal::{Receipt, ReceiptList};
 use script_lines::same_word;
 use std::alloc::AllocError;

@@ -6,6 +6,8 @@
 mod address;
 /// Appending to a text.
 mod append;
+/// Writing in front of what is written.
+mod before;
 /// The bytes between the parts of a text.
 mod bytes;
 /// Hexadecimal digits, written from the last to the first.
@@ -23,6 +25,7 @@ mod parts;
 
 pub use address::{address_before, read_address};
 pub use append::{append_field, end_line, whole_or_nothing};
+pub use before::{address_field_before, field_before, text_before};
 pub use bytes::{COLON, COMMA, DASH, EQUALS, LF, SPACE};
 pub use laws::{
     address_is_spelled, decimal_has_digits, decimal_is_read, front_is_stripped,

@@ -1,5 +1,4 @@
 //! Tests of live runs whose order is given, of their journals, and of the page words that their threads share.
-//! They stand in a crate of their own, since a crate with tests is proved twice.
 #![tactic(auto)]
 
 /// Runs under gates.

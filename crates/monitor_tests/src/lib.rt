@@ -1,5 +1,4 @@
-//! Tests of the monitor and of a world. They stand in a crate of their own, since a crate with tests is
-//! proved twice.
+//! Tests of the monitor and of a world.
 #![tactic(auto)]
 
 /// The steps of a pass.

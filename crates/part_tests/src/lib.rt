@@ -1,6 +1,5 @@
 //! Tests of the crates of types, bits, texts, setups and heat tables: their public calls on the usual
-//! path, and what no clause says. They stand in a crate of their own, since a crate with tests is proved
-//! twice.
+//! path, and what no clause says.
 #![tactic(auto)]
 
 /// The text of heat tables.

@@ -49,6 +49,13 @@ impl<const N: usize> Histogram<N> {
         self.sums[index as usize]
     }
 
+    /// The pages at each index, in order.
+    pub fn sums(&self) -> &[u64]
+        ensures { result.now ≡ self.now }
+    {
+        &self.sums
+    }
+
     /// The pages at an index and above; `index` is at most `N`. Its clauses also say how long each
     /// list is.
     pub fn from(&self, index: u32) -> u64

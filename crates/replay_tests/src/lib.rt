@@ -1,5 +1,4 @@
-//! Tests of the program's top call and of its reading and writing. They stand in a crate of their own,
-//! since a crate with tests is proved twice.
+//! Tests of the program's top call and of its reading and writing.
 #![tactic(auto)]
 
 /// Runs whose input or output fails.

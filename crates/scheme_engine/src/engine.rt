@@ -57,6 +57,15 @@ impl Engine {
         self.candidates.cap()
     }
 
+    /// The number of slots.
+    pub fn slots(&self) -> usize
+        ensures number { result ≡ SLOTS }
+        ensures count { result ≡ length self.now.slots }
+    {
+        let slots = &self.slots[..];
+        slots.len()
+    }
+
     /// Sets a slot to a scheme, with statistics of 0 and as a slot that has seen no metric, or drops it.
     /// Its window and its cost stay as they were; dropping an empty slot changes nothing. The number of the
     /// slot is at most [`MAX_SLOT`].

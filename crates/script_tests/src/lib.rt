@@ -1,5 +1,4 @@
-//! Tests of what is written of scripts and of their faults. They stand in a crate of their own, since a crate
-//! with tests is proved twice.
+//! Tests of what is written of scripts and of their faults.
 #![tactic(auto)]
 
 /// How faults are printed.

@@ -6,17 +6,17 @@ ghost use Rattle.snapshot_print.specs.Forms.{writing_of};
 ghost use Rattle.snapshot_print.specs.Lines.{aggregate_line, as_text, row_lines};
 ghost use Rattle.line_text.specs.Appended.{KeepsFront};
 ghost use Rattle.snapshot_print.specs.Printed.{printed_monitor};
+ghost use Rattle.snapshot_print.specs.declared.widths.TheConstants.{FIRST_LINE, LINE};
 
 use crate::Form;
 use crate::choice_text::print_choices;
-use crate::fields::{field_before, text_before};
 use crate::json_lines::print_aggregate_line;
-use crate::line_groups::LINE_ROOM;
 use crate::row_groups::{print_rows_from, rows_before};
 use crate::row_text::print_rows;
+use crate::widths::{FIRST_LINE, LINE};
 use damon_core::{Monitor, Report};
 use damon_types::Space;
-use line_text::whole_or_nothing;
+use line_text::{field_before, text_before, whole_or_nothing};
 use std::alloc::{AllocError, Global};
 
 /// Appends the text of the last aggregation: a line with its tick, its threshold and the number of
@@ -45,8 +45,8 @@ pub fn print_aggregate(
 // The most rows whose lines are appended together with the first line.
 const FIRST_ROWS: usize = 4;
 
-// Bytes enough for the first line, which has at most 93, and the lines of these rows.
-const FIRST_ROOM: usize = 96 + LINE_ROOM * FIRST_ROWS;
+// Bytes enough for the first line and the lines of these rows.
+const FIRST_ROOM: usize = FIRST_LINE + LINE * FIRST_ROWS;
 
 // Appends the first line of an aggregation, the lines of the slots that it served, and those of the rows
 // that it reported.
@@ -102,10 +102,10 @@ fn print_first_rows(
     out.extend_from_slice(&text[start..])
 }
 
-// Writes the first line of an aggregation, at most 93 bytes, so that it ends right before index `end`,
-// and returns the index where it begins.
+// Writes the first line of an aggregation so that it ends right before index `end`, and returns the index
+// where it begins.
 fn first_line_before(bytes: &mut [u8], end: usize, report: &Report) -> usize
-    requires room { 93 ≤ end }
+    requires room { FIRST_LINE ≤ end }
     requires within { end ≤ length bytes.old }
     ensures start { result ≤ end }
     ensures written { drop result bytes.new ≡ aggregate_line (report_value report.now) ++ drop end bytes.old }

@@ -5,21 +5,17 @@ ghost use Rattle.damon_types.specs.Space.{pages_of};
 ghost use Rattle.snapshot_print.specs.Fields.{number_or_none};
 ghost use Rattle.snapshot_print.specs.Schemes.{action_in, apply_line, apply_part, choice_lines, choice_part, choices_text, run_part, runs_of_slot, slot_line, taken_part};
 ghost use Rattle.line_text.specs.Appended.{KeepsFront};
+ghost use Rattle.snapshot_print.specs.declared.widths.TheConstants.{APPLY_PART, RUN_PART, SLOT_LINE, TAKEN_PART};
 
-use crate::fields::{field_before, text_before, word_before};
+use crate::fields::word_before;
 use crate::line_groups::{LineOf, print_lines};
 use crate::page_run::PageRun;
 use crate::row_text::pages_before;
-use damon_types::{Action, MAX_SLOT, Space};
-use line_text::number_before;
+use crate::widths::{APPLY_PART, SLOT_LINE};
+use damon_types::{Action, Space};
+use line_text::{field_before, number_before, text_before};
 use scheme_engine::{Applied, AppliedRun, Engine, SlotChoice};
 use std::alloc::AllocError;
-
-// Bytes enough for the beginning of an `apply` line, which has at most 38.
-const APPLY_ROOM: usize = 40;
-
-// Bytes enough for a `slot` line, which has at most 107.
-const SLOT_ROOM: usize = 112;
 
 // Appends the lines of choices in order, each with its runs, which are in slot order like the choices. Each
 // run has a page, and its pages are pages of the space.
@@ -77,9 +73,7 @@ fn print_choice(
 pub(crate) fn action_in(engine: &Engine, slot: u8) -> Option<Action>
     ensures { result ≡ action_in engine.now.slots slot }
 {
-    // For its clauses alone: the number of slots.
-    let _cap = engine.cap();
-    if slot > MAX_SLOT {
+    if usize::from(slot) >= engine.slots() {
         return None;
     }
     engine.slot(slot).map(|view| view.action)
@@ -99,8 +93,8 @@ fn print_runs(
         ≡ out.old.items ++ flat_map (apply_line space.now slot action) runs.now) }
     ensures kept { KeepsFront out.old.items out.new.items }
 {
-    let mut text = [0; APPLY_ROOM];
-    let start = apply_before(&mut text, APPLY_ROOM, slot, action);
+    let mut text = [0; APPLY_PART];
+    let start = apply_before(&mut text, APPLY_PART, slot, action);
     let lines = RunLines {
         apply: &text[start..],
         space,
@@ -113,7 +107,7 @@ fn print_runs(
 struct RunLines<'a> {
     apply: &'a [u8],
     space: &'a Space,
-    ghost short: { length apply.now ≤ 40 },
+    ghost short: { length apply.now ≤ APPLY_PART },
 }
 
 impl LineOf<AppliedRun> for RunLines<'_> {
@@ -128,17 +122,16 @@ impl LineOf<AppliedRun> for RunLines<'_> {
     }
 }
 
-// Writes `TARGET START-END score=..` and the line's end, at most 86 bytes, so that they end right before
-// index `end`, and returns the index where they begin. The functions below do the same for other parts of
-// lines.
+// Writes `TARGET START-END score=..` and the line's end so that they end right before index `end`, and returns
+// the index where they begin. The functions below do the same for other parts of lines.
 #[inline(always)]
 fn run_before(bytes: &mut [u8], end: usize, run: &AppliedRun, space: &Space) -> usize
     requires some { 1 ≤ run.now.pages }
     requires inside { run.now.start + run.now.pages ≤ pages_of space.now }
-    requires room { 86 ≤ end }
+    requires room { RUN_PART ≤ end }
     requires within { end ≤ length bytes.old }
     ensures start { result ≤ end }
-    ensures most { end ≤ result + 86 }
+    ensures most { end ≤ result + RUN_PART }
     ensures written { drop result bytes.new ≡ run_part space.now run.now ++ drop end bytes.old }
 {
     let line_end = text_before(bytes, end, b"\n");
@@ -147,9 +140,9 @@ fn run_before(bytes: &mut [u8], end: usize, run: &AppliedRun, space: &Space) -> 
     number_before(bytes, pages, u64::from(run.target))
 }
 
-// Writes `apply SLOT ACTION ` with a space at its end: at most 38 bytes.
+// Writes `apply SLOT ACTION ` with a space at its end.
 fn apply_before(bytes: &mut [u8], end: usize, slot: u8, action: Action) -> usize
-    requires room { 38 ≤ end }
+    requires room { APPLY_PART ≤ end }
     requires within { end ≤ length bytes.old }
     ensures start { result ≤ end }
     ensures written { drop result bytes.new ≡ apply_part slot action ++ drop end bytes.old }
@@ -164,14 +157,14 @@ fn print_slot_line(out: &mut Vec<u8>, choice: &SlotChoice) -> Result<(), AllocEr
     ensures ok { OnOk result (out.new.items ≡ out.old.items ++ slot_line choice.now) }
     ensures kept { KeepsFront out.old.items out.new.items }
 {
-    let mut text = [0; SLOT_ROOM];
-    let start = slot_line_before(&mut text, SLOT_ROOM, choice);
+    let mut text = [0; SLOT_LINE];
+    let start = slot_line_before(&mut text, SLOT_LINE, choice);
     out.extend_from_slice(&text[start..])
 }
 
-// Writes the `slot` line of a choice: at most 107 bytes.
+// Writes the `slot` line of a choice.
 fn slot_line_before(bytes: &mut [u8], end: usize, choice: &SlotChoice) -> usize
-    requires room { 107 ≤ end }
+    requires room { SLOT_LINE ≤ end }
     requires within { end ≤ length bytes.old }
     ensures start { result ≤ end }
     ensures written { drop result bytes.new ≡ slot_line choice.now ++ drop end bytes.old }
@@ -181,12 +174,12 @@ fn slot_line_before(bytes: &mut [u8], end: usize, choice: &SlotChoice) -> usize
     field_before(bytes, chosen, b"slot ", u64::from(choice.slot))
 }
 
-// Writes what was chosen, or that the slot was inactive: at most 81 bytes.
+// Writes what was chosen, or that the slot was inactive.
 fn choice_before(bytes: &mut [u8], end: usize, choice: &SlotChoice) -> usize
-    requires room { 81 ≤ end }
+    requires room { TAKEN_PART ≤ end }
     requires within { end ≤ length bytes.old }
     ensures start { result ≤ end }
-    ensures most { end ≤ result + 81 }
+    ensures most { end ≤ result + TAKEN_PART }
     ensures written { drop result bytes.new ≡ choice_part choice.now ++ drop end bytes.old }
 {
     if choice.active {
@@ -196,12 +189,12 @@ fn choice_before(bytes: &mut [u8], end: usize, choice: &SlotChoice) -> usize
     }
 }
 
-// Writes ` left=.. taken=.. lowest=..`: at most 81 bytes.
+// Writes ` left=.. taken=.. lowest=..`.
 fn taken_before(bytes: &mut [u8], end: usize, choice: &SlotChoice) -> usize
-    requires room { 81 ≤ end }
+    requires room { TAKEN_PART ≤ end }
     requires within { end ≤ length bytes.old }
     ensures start { result ≤ end }
-    ensures most { end ≤ result + 81 }
+    ensures most { end ≤ result + TAKEN_PART }
     ensures written { drop result bytes.new ≡ taken_part choice.now ++ drop end bytes.old }
 {
     let lowest = option_before(bytes, end, b" lowest=", choice.lowest.map(u64::from));

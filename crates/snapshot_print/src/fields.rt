@@ -3,7 +3,7 @@ ghost use Rattle.std.specs.Fmt.{decimal};
 ghost use Rattle.snapshot_print.specs.Fields.{yes_or_no};
 ghost use Rattle.line_text.specs.Appended.{KeepsFront};
 
-use line_text::number_before;
+use line_text::{number_before, text_before};
 use std::alloc::AllocError;
 
 // Appends a field's name and a word.
@@ -16,21 +16,8 @@ pub(crate) fn print_word(out: &mut Vec<u8>, name: &[u8], word: &[u8]) -> Result<
     out.extend_from_slice(word)
 }
 
-// Writes a field's name and a number in decimal so that they end right before index `end`, and returns
-// the index where they begin.
-#[inline(always)]
-pub(crate) fn field_before(bytes: &mut [u8], end: usize, name: &[u8], value: u64) -> usize
-    requires room { length name.now + 20 ≤ end }
-    requires within { end ≤ length bytes.old }
-    ensures start { result ≤ end }
-    ensures most { end ≤ result + (length name.now + 20) }
-    ensures written { drop result bytes.new ≡ name.now ++ (decimal value ++ drop end bytes.old) }
-{
-    let digits = number_before(bytes, end, value);
-    text_before(bytes, digits, name)
-}
-
-// Writes a field's name and a number of 32 bits in the same way, with at most 10 digits.
+// Writes a field's name and a number of 32 bits, with at most 10 digits, so that they end right before index
+// `end`, and returns the index where they begin.
 #[inline(always)]
 pub(crate) fn short_field_before(bytes: &mut [u8], end: usize, name: &[u8], value: u32) -> usize
     requires digits { 20 ≤ end }
@@ -54,25 +41,6 @@ fn short_number_before(bytes: &mut [u8], end: usize, value: u32) -> usize
     ensures written { drop result bytes.new ≡ decimal value ++ drop end bytes.old }
 {
     number_before(bytes, end, u64::from(value))
-}
-
-// Writes a text in the same way.
-#[inline(always)]
-pub(crate) fn text_before(bytes: &mut [u8], end: usize, text: &[u8]) -> usize
-    requires room { length text.now ≤ end }
-    requires within { end ≤ length bytes.old }
-    ensures start { result + length text.now ≡ end }
-    ensures written { drop result bytes.new ≡ text.now ++ drop end bytes.old }
-{
-    let start = end - text.len();
-    // For a text of constant length this is a store or two, where a copy asks first whether the slices
-    // overlap.
-    let mut index = text.len();
-    'bytes: while index > 0 {
-        index -= 1;
-        bytes[start + index] = text[index];
-    }
-    start
 }
 
 // Writes a field's name and a word in the same way.

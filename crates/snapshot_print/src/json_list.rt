@@ -4,9 +4,10 @@ ghost use Rattle.std.specs.Prelude.{◌≡◌, ◌+◌, ◌≤◌, ◌++◌, len
 ghost use Rattle.std.specs.Fmt.{decimal};
 ghost use Rattle.line_text.specs.Address.{spelled_address};
 ghost use Rattle.line_text.specs.Appended.{KeepsFront};
+ghost use Rattle.snapshot_print.specs.declared.widths.TheConstants.{START_PART};
 
-use crate::fields::{short_field_before, text_before};
-use crate::row_text::address_field_before;
+use crate::fields::short_field_before;
+use line_text::{address_field_before, text_before};
 use std::alloc::AllocError;
 
 // Makes a list of the items from index `start` on, which each begin with a comma: the first comma becomes
@@ -37,14 +38,14 @@ fn open_list(out: &mut Vec<u8>, start: usize) -> Result<(), AllocError>
     Ok(())
 }
 
-// Writes the members `start` and `target` and the end of their object, at most 50 bytes, so that they end
-// right before index `end`, and returns the index where they begin.
+// Writes the members `start` and `target` and the end of their object so that they end right before index
+// `end`, and returns the index where they begin.
 #[inline(always)]
 pub(crate) fn start_before(bytes: &mut [u8], end: usize, from: u64, target: u32) -> usize
-    requires room { 50 ≤ end }
+    requires room { START_PART ≤ end }
     requires within { end ≤ length bytes.old }
     ensures start { result ≤ end }
-    ensures most { end ≤ result + 50 }
+    ensures most { end ≤ result + START_PART }
     ensures written { drop result bytes.new ≡ codes ",\"start\":\"" ++ (spelled_address from
         ++ (codes "\",\"target\":" ++ (decimal target ++ (codes "}" ++ drop end bytes.old)))) }
 {

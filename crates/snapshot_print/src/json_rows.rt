@@ -6,14 +6,15 @@ ghost use Rattle.damon_types.specs.Space.{pages_of};
 ghost use Rattle.snapshot_print.specs.Json.{row_json, rows_json};
 ghost use Rattle.line_text.specs.Appended.{KeepsFront};
 ghost use Rattle.snapshot_print.specs.Pieces.{piece};
+ghost use Rattle.snapshot_print.specs.declared.widths.TheConstants.{LINE, ROW_ITEM};
 
 use crate::fields::short_field_before;
 use crate::json_list::{close_list, start_before};
 use crate::line_groups::LineOf;
 use crate::page_run::PageRun;
 use crate::row_groups::print_rows_from;
-use crate::row_text::address_field_before;
 use damon_types::{Row, Space};
+use line_text::address_field_before;
 use region_list::RowBuf;
 use std::alloc::AllocError;
 
@@ -52,16 +53,16 @@ impl LineOf<Row> for RowItems<'_> {
     }
 }
 
-// Writes a comma and the object of a row, at most 132 bytes, so that they end right before index `end`,
-// and returns the index where they begin. A number wants room for 20 digits, though it has fewer here.
+// Writes a comma and the object of a row so that they end right before index `end`, and returns the index
+// where they begin.
 #[inline(always)]
 fn row_before(bytes: &mut [u8], end: usize, row: &Row, space: &Space) -> usize
     requires some { 1 ≤ row.now.pages }
     requires inside { row.now.start + row.now.pages ≤ pages_of space.now }
-    requires room { 134 ≤ end }
+    requires room { LINE ≤ end }
     requires within { end ≤ length bytes.old }
     ensures start { result ≤ end }
-    ensures most { end ≤ result + 132 }
+    ensures most { end ≤ result + ROW_ITEM }
     ensures written { drop result bytes.new
         ≡ piece (row_json space.now row.now) ++ drop end bytes.old }
 {

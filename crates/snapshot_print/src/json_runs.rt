@@ -6,19 +6,18 @@ ghost use Rattle.damon_types.specs.Space.{pages_of};
 ghost use Rattle.snapshot_print.specs.Json.{applied_json, list_of};
 ghost use Rattle.line_text.specs.Appended.{KeepsFront};
 ghost use Rattle.snapshot_print.specs.Pieces.{piece, run_prefix, run_parts, run_rest};
+ghost use Rattle.snapshot_print.specs.declared.widths.TheConstants.{PREFIX_PART, REST_PART};
 
 use crate::choice_text::{action_in, count_runs};
-use crate::fields::{short_field_before, text_before, word_before};
+use crate::fields::{short_field_before, word_before};
 use crate::json_list::{close_list, start_before};
 use crate::line_groups::{LineOf, print_lines};
 use crate::page_run::PageRun;
+use crate::widths::PREFIX_PART;
 use damon_types::{Action, Space};
-use line_text::address_before;
+use line_text::{address_before, text_before};
 use scheme_engine::{AppliedRun, Engine};
 use std::alloc::AllocError;
-
-// Bytes enough for the prefix of an item, which has at most 31.
-const PREFIX_ROOM: usize = 32;
 
 // Appends the list of runs, each with the action of its slot. Each run has a page, and its pages are pages
 // of the space.
@@ -90,8 +89,8 @@ fn print_with_action(
         (out.new.items ≡ out.old.items ++ flat_map (run_parts space.now action) runs.now) }
     ensures kept { KeepsFront out.old.items out.new.items }
 {
-    let mut text = [0; PREFIX_ROOM];
-    let start = prefix_before(&mut text, PREFIX_ROOM, action);
+    let mut text = [0; PREFIX_PART];
+    let start = prefix_before(&mut text, PREFIX_PART, action);
     let items = RunItems {
         prefix: &text[start..],
         space,
@@ -104,7 +103,7 @@ fn print_with_action(
 struct RunItems<'a> {
     prefix: &'a [u8],
     space: &'a Space,
-    ghost short: { length prefix.now ≤ 32 },
+    ghost short: { length prefix.now ≤ PREFIX_PART },
 }
 
 impl LineOf<AppliedRun> for RunItems<'_> {
@@ -119,16 +118,16 @@ impl LineOf<AppliedRun> for RunItems<'_> {
     }
 }
 
-// Writes the item of a run from the address after its pages on, at most 106 bytes, so that it ends right
-// before index `end`, and returns the index where it begins.
+// Writes the item of a run from the address after its pages on, so that it ends right before index `end`,
+// and returns the index where it begins.
 #[inline(always)]
 fn rest_before(bytes: &mut [u8], end: usize, run: &AppliedRun, space: &Space) -> usize
     requires some { 1 ≤ run.now.pages }
     requires inside { run.now.start + run.now.pages ≤ pages_of space.now }
-    requires room { 106 ≤ end }
+    requires room { REST_PART ≤ end }
     requires within { end ≤ length bytes.old }
     ensures start { result ≤ end }
-    ensures most { end ≤ result + 106 }
+    ensures most { end ≤ result + REST_PART }
     ensures written { drop result bytes.new ≡ run_rest space.now run.now ++ drop end bytes.old }
 {
     let (from, to) = PageRun::of_applied(run).addresses(space);
@@ -138,10 +137,9 @@ fn rest_before(bytes: &mut [u8], end: usize, run: &AppliedRun, space: &Space) ->
     address_before(bytes, score, to)
 }
 
-// Writes the prefix of the items of the runs of a slot with this action, at most 31 bytes, in the same
-// way.
+// Writes the prefix of the items of the runs of a slot with this action in the same way.
 fn prefix_before(bytes: &mut [u8], end: usize, action: Option<Action>) -> usize
-    requires room { 31 ≤ end }
+    requires room { PREFIX_PART ≤ end }
     requires within { end ≤ length bytes.old }
     ensures start { result ≤ end }
     ensures written { drop result bytes.new ≡ run_prefix action ++ drop end bytes.old }

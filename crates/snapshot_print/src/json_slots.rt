@@ -12,7 +12,7 @@ ghost use Rattle.line_text.specs.Appended.{KeepsFront};
 
 use crate::json_parts::{send_bool, send_count, send_text};
 use damon_types::MAX_SLOT;
-use scheme_engine::{Engine, SLOTS, SlotView};
+use scheme_engine::{Engine, SlotView};
 use serde::{Described, Serialize, Serializer};
 use std::alloc::{AllocError, Global};
 
@@ -65,10 +65,8 @@ fn send_slots<S: Serializer>(out: &mut S, engine: &Engine) -> Result<(), S::Erro
         (SendsValue (list_of (set_slots_json 0 engine.now.slots))
         (S.written out.old) (S.written out.new)) }
 {
-    // For its clauses alone: the number of slots.
-    let _cap = engine.cap();
     out.begin_seq(Some(count_set(engine)))?;
-    for slot in 0..SLOTS {
+    for slot in 0..engine.slots() {
         send_slot(out, slot as u8, engine)?;
     }
     out.end_seq()
@@ -79,10 +77,8 @@ fn send_slots<S: Serializer>(out: &mut S, engine: &Engine) -> Result<(), S::Erro
 fn count_set(engine: &Engine) -> usize
     ensures { result ≡ length (set_slots_json 0 engine.now.slots) }
 {
-    // For its clauses alone: the number of slots.
-    let _cap = engine.cap();
     let mut set = 0;
-    for slot in 0..SLOTS {
+    for slot in 0..engine.slots() {
         set += count_slot(engine, slot as u8);
     }
     set

@@ -40,6 +40,8 @@ mod row_text;
 mod show;
 /// The lines of the set slots in a show.
 mod slot_text;
+/// The most bytes of lines and of their parts.
+mod widths;
 
 pub use aggregate::print_aggregate;
 pub use commit::{print_answer, print_commit};

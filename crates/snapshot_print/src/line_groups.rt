@@ -2,20 +2,19 @@
 ghost use Rattle.std.specs.Prelude.{◌≡◌, ◌+◌, ◌*◌, ◌≤◌, ◌++◌, ℕ, List, length, drop, flat_map, OnOk};
 ghost use Rattle.std.specs.List.{AllByRecursion};
 ghost use Rattle.line_text.specs.Appended.{KeepsFront};
+ghost use Rattle.snapshot_print.specs.declared.widths.TheConstants.{LINE};
 
+use crate::widths::LINE;
 use std::alloc::AllocError;
-
-// Bytes enough for any line or item, which has at most 141.
-pub(crate) const LINE_ROOM: usize = 144;
 
 // The most lines that are appended at once.
 pub(crate) const LINES_AT_ONCE: usize = 16;
 
 // Bytes enough for a group of lines.
-pub(crate) const GROUP_ROOM: usize = LINE_ROOM * LINES_AT_ONCE;
+pub(crate) const GROUP_ROOM: usize = LINE * LINES_AT_ONCE;
 
-// What writes for each item a line, or its text in a list in JSON, of at most 141 bytes. The writers are
-// inlined into the loop over the items, which has their only call.
+// What writes for each item a line, or its text in a list in JSON. The writers are inlined into the loop over
+// the items, which has their only call.
 pub(crate) trait LineOf<T> {
     // The line of an item.
     ghost line: { Self → T → List ℕ };
@@ -27,10 +26,10 @@ pub(crate) trait LineOf<T> {
     // begins.
     fn line_before(&self, bytes: &mut [u8], end: usize, item: &T) -> usize
         requires can { can_write self.now item.now }
-        requires room { 141 ≤ end }
+        requires room { LINE ≤ end }
         requires within { end ≤ length bytes.old }
         ensures start { result ≤ end }
-        ensures most { end ≤ result + 141 }
+        ensures most { end ≤ result + LINE }
         ensures written { drop result bytes.new ≡ line self.now item.now ++ drop end bytes.old };
 }
 
@@ -64,9 +63,9 @@ pub(crate) fn print_lines<T, L: LineOf<T>>(
 // begin: from the last item to the first, each line ends where the next one begins.
 pub(crate) fn lines_before<T, L: LineOf<T>>(lines: &mut [u8], items: &[T], line_of: &L) -> usize
     requires items { AllByRecursion (L.can_write line_of.now) items.now }
-    requires room { 141 * length items.now ≤ length lines.old }
+    requires room { LINE * length items.now ≤ length lines.old }
     ensures start { result ≤ length lines.new }
-    ensures most { length lines.new ≤ result + 141 * length items.now }
+    ensures most { length lines.new ≤ result + LINE * length items.now }
     ensures written { drop result lines.new ≡ flat_map (L.line line_of.now) items.now }
 {
     let mut start = lines.len();

@@ -2,6 +2,7 @@
 ghost use Rattle.std.specs.Prelude.{◌≡◌, ◌+◌, ◌-◌, ◌*◌, ◌≤◌, ◌++◌, length, take, drop, flat_map, OnOk};
 ghost use Rattle.std.specs.List.{AllByRecursion};
 ghost use Rattle.line_text.specs.Appended.{KeepsFront};
+ghost use Rattle.snapshot_print.specs.declared.widths.TheConstants.{LINE};
 
 use crate::line_groups::{GROUP_ROOM, LINES_AT_ONCE, LineOf};
 use damon_types::Row;
@@ -48,9 +49,9 @@ pub(crate) fn rows_before<L: LineOf<Row>>(
     requires order { indexes.start ≤ indexes.end }
     requires within { indexes.end ≤ length rows.now.rows }
     requires rows { AllByRecursion (L.can_write line_of.now) rows.now.rows }
-    requires room { 141 * (indexes.end - indexes.start) ≤ length lines.old }
+    requires room { LINE * (indexes.end - indexes.start) ≤ length lines.old }
     ensures start { result ≤ length lines.new }
-    ensures most { length lines.new ≤ result + 141 * (indexes.end - indexes.start) }
+    ensures most { length lines.new ≤ result + LINE * (indexes.end - indexes.start) }
     ensures written { drop result lines.new ≡ flat_map (L.line line_of.now)
         (take (indexes.end - indexes.start) (drop indexes.start rows.now.rows)) }
 {

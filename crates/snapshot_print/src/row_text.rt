@@ -1,17 +1,16 @@
 ghost use Rattle.std.specs.Prelude.{◌≡◌, ◌+◌, ◌*◌, ◌≤◌, ◌++◌, length, drop, OnOk};
 ghost use Rattle.std.specs.List.{AllByRecursion};
 ghost use Rattle.damon_types.specs.Space.{pages_of};
-ghost use Rattle.line_text.specs.Address.{spelled_address};
 ghost use Rattle.snapshot_print.specs.Fields.{pages_part};
 ghost use Rattle.snapshot_print.specs.Lines.{count_part, place_part, row_line, row_lines};
 ghost use Rattle.line_text.specs.Appended.{KeepsFront};
+ghost use Rattle.snapshot_print.specs.declared.widths.TheConstants.{COUNTS_PART, PAGES_PART, PLACE_PART};
 
-use crate::fields::{field_before, text_before};
 use crate::line_groups::LineOf;
 use crate::page_run::PageRun;
 use crate::row_groups::print_rows_from;
 use damon_types::{Row, Space};
-use line_text::address_before;
+use line_text::{address_field_before, field_before, text_before};
 use region_list::RowBuf;
 use std::alloc::AllocError;
 
@@ -37,15 +36,15 @@ impl LineOf<Row> for Space {
     }
 }
 
-// Writes ` count=.. last=.. age=..` and the line's end, at most 79 bytes, so that they end right before
-// index `end`, and returns the index where they begin. The functions below do the same for other parts
-// of a line: written from its end to its start, no length has to be known in advance.
+// Writes ` count=.. last=.. age=..` and the line's end, so that they end right before index `end`, and
+// returns the index where they begin. The functions below do the same for other parts of a line: written
+// from its end to its start, no length has to be known in advance.
 #[inline(always)]
 fn counts_before(bytes: &mut [u8], end: usize, row: &Row) -> usize
-    requires room { 79 ≤ end }
+    requires room { COUNTS_PART ≤ end }
     requires within { end ≤ length bytes.old }
     ensures start { result ≤ end }
-    ensures most { end ≤ result + 79 }
+    ensures most { end ≤ result + COUNTS_PART }
     ensures written { drop result bytes.new ≡ count_part row.now ++ drop end bytes.old }
 {
     let line_end = text_before(bytes, end, b"\n");
@@ -54,48 +53,34 @@ fn counts_before(bytes: &mut [u8], end: usize, row: &Row) -> usize
     field_before(bytes, last, b" count=", u64::from(row.count))
 }
 
-// Writes `row TARGET START-END`: at most 62 bytes.
+// Writes `row TARGET START-END`.
 #[inline(always)]
 fn place_before(bytes: &mut [u8], end: usize, row: &Row, space: &Space) -> usize
     requires some { 1 ≤ row.now.pages }
     requires inside { row.now.start + row.now.pages ≤ pages_of space.now }
-    requires room { 62 ≤ end }
+    requires room { PLACE_PART ≤ end }
     requires within { end ≤ length bytes.old }
     ensures start { result ≤ end }
-    ensures most { end ≤ result + 62 }
+    ensures most { end ≤ result + PLACE_PART }
     ensures written { drop result bytes.new ≡ place_part space.now row.now ++ drop end bytes.old }
 {
     let first = pages_before(bytes, end, PageRun::of_row(row), space);
     field_before(bytes, first, b"row ", u64::from(row.target))
 }
 
-// Writes ` START-END` of consecutive pages: at most 38 bytes.
+// Writes ` START-END` of consecutive pages.
 #[inline(always)]
 pub(crate) fn pages_before(bytes: &mut [u8], end: usize, run: PageRun, space: &Space) -> usize
     requires some { 1 ≤ run.pages }
     requires inside { run.start + run.pages ≤ pages_of space.now }
-    requires room { 38 ≤ end }
+    requires room { PAGES_PART ≤ end }
     requires within { end ≤ length bytes.old }
     ensures start { result ≤ end }
-    ensures most { end ≤ result + 38 }
+    ensures most { end ≤ result + PAGES_PART }
     ensures written { drop result bytes.new ≡ pages_part space.now run.start run.pages
         ++ drop end bytes.old }
 {
     let (from, to) = run.addresses(space);
     let last = address_field_before(bytes, end, b"-", to);
     address_field_before(bytes, last, b" ", from)
-}
-
-// Writes a field's name and an address.
-#[inline(always)]
-pub(crate) fn address_field_before(bytes: &mut [u8], end: usize, name: &[u8], value: u64) -> usize
-    requires room { length name.now + 18 ≤ end }
-    requires within { end ≤ length bytes.old }
-    ensures start { result ≤ end }
-    ensures most { end ≤ result + (length name.now + 18) }
-    ensures written { drop result bytes.new
-        ≡ name.now ++ (spelled_address value ++ drop end bytes.old) }
-{
-    let address = address_before(bytes, end, value);
-    text_before(bytes, address, name)
 }

@@ -3,14 +3,14 @@ ghost use Rattle.std.specs.Prelude.{◌≡◌, ◌+◌, ◌≤◌, ◌++◌, len
 ghost use Rattle.scheme_engine.specs.Slots.{empty_slot};
 ghost use Rattle.snapshot_print.specs.Schemes.{scheme_line, scheme_part, shown_slot, shown_slots, statistics_part};
 ghost use Rattle.line_text.specs.Appended.{KeepsFront};
+ghost use Rattle.snapshot_print.specs.declared.widths.TheConstants.{SCHEME_LINE, STATE_PART, STATISTICS_PART};
 
-use crate::fields::{field_before, text_before, word_before, yes_or_no};
+use crate::fields::{word_before, yes_or_no};
+use crate::widths::SCHEME_LINE;
 use damon_types::MAX_SLOT;
-use scheme_engine::{Engine, SLOTS, SlotView};
+use line_text::{field_before, text_before};
+use scheme_engine::{Engine, SlotView};
 use std::alloc::AllocError;
-
-// Bytes enough for the line of a set slot, which has at most 191.
-const SCHEME_ROOM: usize = 192;
 
 // Appends the lines of the set slots, in slot order.
 #[tactic(auto, using(crate::proofs::Slots::shown_slots_next))]
@@ -18,9 +18,7 @@ pub(crate) fn print_slots(out: &mut Vec<u8>, engine: &Engine) -> Result<(), Allo
     ensures ok { OnOk result (out.new.items ≡ out.old.items ++ shown_slots 0 engine.now.slots) }
     ensures kept { KeepsFront out.old.items out.new.items }
 {
-    // For its clauses alone: the number of slots.
-    let _cap = engine.cap();
-    for slot in 0..SLOTS {
+    for slot in 0..engine.slots() {
         print_slot(out, slot as u8, engine)?;
     }
     Ok(())
@@ -36,15 +34,15 @@ fn print_slot(out: &mut Vec<u8>, slot: u8, engine: &Engine) -> Result<(), AllocE
     let Some(view) = engine.slot(slot) else {
         return Ok(());
     };
-    let mut line = [0; SCHEME_ROOM];
-    let start = scheme_before(&mut line, SCHEME_ROOM, slot, &view);
+    let mut line = [0; SCHEME_LINE];
+    let start = scheme_before(&mut line, SCHEME_LINE, slot, &view);
     out.extend_from_slice(&line[start..])
 }
 
-// Writes the line of a set slot, at most 191 bytes, so that it ends right before index `end`, and returns
-// the index where it begins. The functions below do the same for a part of it.
+// Writes the line of a set slot so that it ends right before index `end`, and returns the index where it
+// begins. The functions below do the same for a part of it.
 fn scheme_before(bytes: &mut [u8], end: usize, slot: u8, view: &SlotView) -> usize
-    requires room { 191 ≤ end }
+    requires room { SCHEME_LINE ≤ end }
     requires within { end ≤ length bytes.old }
     ensures start { result ≤ end }
     ensures written { drop result bytes.new ≡ scheme_line slot view.now ++ drop end bytes.old }
@@ -53,12 +51,12 @@ fn scheme_before(bytes: &mut [u8], end: usize, slot: u8, view: &SlotView) -> usi
     state_before(bytes, statistics, slot, view)
 }
 
-// Writes the window and the statistics, and the line's end: at most 142 bytes.
+// Writes the window and the statistics, and the line's end.
 fn statistics_before(bytes: &mut [u8], end: usize, view: &SlotView) -> usize
-    requires room { 142 ≤ end }
+    requires room { STATISTICS_PART ≤ end }
     requires within { end ≤ length bytes.old }
     ensures start { result ≤ end }
-    ensures most { end ≤ result + 142 }
+    ensures most { end ≤ result + STATISTICS_PART }
     ensures written { drop result bytes.new ≡ statistics_part view.now ++ drop end bytes.old }
 {
     let line_end = text_before(bytes, end, b"\n");
@@ -69,9 +67,9 @@ fn statistics_before(bytes: &mut [u8], end: usize, view: &SlotView) -> usize
     field_before(bytes, from, b" charged=", view.window.charged)
 }
 
-// Writes `scheme SLOT ACTION active=..`: at most 49 bytes.
+// Writes `scheme SLOT ACTION active=..`.
 fn state_before(bytes: &mut [u8], end: usize, slot: u8, view: &SlotView) -> usize
-    requires room { 49 ≤ end }
+    requires room { STATE_PART ≤ end }
     requires within { end ≤ length bytes.old }
     ensures start { result ≤ end }
     ensures written { drop result bytes.new ≡ scheme_part slot view.now ++ drop end bytes.old }

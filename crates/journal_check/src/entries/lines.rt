@@ -8,8 +8,8 @@ ghost use Rattle.std.specs.List.{list_all};
 ghost use Rattle.journal_text.specs.EntryLine.{is_bit, is_one, n_bits_of};
 ghost use Rattle.journal_text.specs.Spelled.{call_front, check_front, spelled_answer};
 
-use journal_text::{field_before, text_before, without_end, write_answer};
-use line_text::strip;
+use journal_text::{without_end, write_answer};
+use line_text::{field_before, strip, text_before};
 use run_journal::CallAnswer;
 use script_lines::same_word;
 use std::alloc::{AllocError, Global};

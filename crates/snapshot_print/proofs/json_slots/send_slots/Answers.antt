@@ -16,5 +16,5 @@ returns g c =
     let first = g.S.Serializer.written c.begin_seq.new.self in
     let end = g.S.Serializer.written c.end_seq.new.self in
     let begun = subst (λ n. Logs old first (seq_begins (Some n))) (c.count_set.ensures ∙ sym (items_len-items_of (set_slots_json 0 slots))) c.in_ok-begin_seq.ensures in
-    let none : drop c.loop-slot.slot slots ≡ [] = drop_all c.loop-slot.slot slots (omega (arith, c.cap-cap.ensures.slots)) in
+    let none : drop c.loop-slot.slot slots ≡ [] = drop_all c.loop-slot.slot slots (omega (arith, c.slots-slot-end.ensures.count)) in
     on_ok_weaker c.end_seq.result (λ e. (first, begun, c.loop-slot.invariant end (subst (λ ss. SendsItems (items_of (set_slots_json c.loop-slot.slot ss)) (g.S.Serializer.written c.loop-slot.out) end) (sym none) e))) c.end_seq.ensures

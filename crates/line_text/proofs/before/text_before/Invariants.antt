@@ -1,5 +1,5 @@
 use Rattle.std.proofs.Common.{◌≡◌, ◌+◌, ◌≤◌, ◌++◌, length, drop}
-use Rattle.snapshot_print.proofs.fields.text_before.Given as goal
+use Rattle.line_text.proofs.before.text_before.Given as goal
 
 abbrev pub invariant-bytes : goal.invariant-bytes
 invariant-bytes l = record {
