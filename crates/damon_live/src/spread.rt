@@ -7,6 +7,9 @@ use std::thread;
 // The most turns for which a thread waits. A thread that could not be made is never there.
 const MAX_TURNS: u32 = 100_000;
 
+// For how many of them it only looks. A yield may take milliseconds, and what others do meanwhile takes less.
+const LOOKS: u32 = 4_000;
+
 // How often a worker counts its touches at least, and the most that it counts at once.
 const COUNTS: u32 = 64;
 
@@ -72,11 +75,13 @@ impl<P: Pace> Spread<'_, P> {
     fn hold<T: Fn() -> bool>(&self, is_so: T)
         requires { T.IsAlwaysCallable is_so }
     {
-        for _ in 0..MAX_TURNS {
+        for turn in 0..MAX_TURNS {
             if is_so() || self.late.load(Ordering::SeqCst) {
                 return;
             }
-            thread::yield_now();
+            if turn >= LOOKS {
+                thread::yield_now();
+            }
         }
         self.late.store(true, Ordering::SeqCst);
     }
