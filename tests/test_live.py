@@ -125,6 +125,12 @@ class Found(unittest.TestCase):
     RUNS = 20
     # The least number of them that have hits.
     MOST = 15
+    # Three workers touch each of 16 pages: fewer touches than passes.
+    FEW = (
+        "damon live 1\nseed 1\nunit 1\ncap 8\nattrs 3 8 2\ntarget 0x0 16\nrange 0 0x0 0x10000 0\npasses 200\n"
+        + "worker\nsweep 0 0x0 0x10000\n" * 3
+        + "end\n"
+    )
 
     def hits(self, script: str) -> List[int]:
         """How many hits each of some runs has."""
@@ -133,9 +139,9 @@ class Found(unittest.TestCase):
 
     def test_on_a_busy_machine(self) -> None:
         with busy_machine():
-            for script in (WORKERS, EXAMPLE):
-                with self.subTest(script=script.name):
-                    found = self.hits(script.read_text())
+            for name, script in (("workers", WORKERS.read_text()), ("live", EXAMPLE.read_text()), ("few touches", self.FEW)):
+                with self.subTest(script=name):
+                    found = self.hits(script)
                     # A system may still run one thread to its end before another one begins.
                     self.assertGreaterEqual(sum(1 for hits in found if hits), self.MOST, found)
 

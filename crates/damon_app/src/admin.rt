@@ -10,9 +10,9 @@ ghost use Rattle.damon_app.specs.declared.request.Request.TheVariants.{Admin as 
 
 use damon_admin::Admin;
 use damon_types::{Sink, Source};
-use run_status::Status;
+use run_status::{Status, hand_over};
 use std::alloc::Global;
-use text_io::{INPUT_LIMIT, pump, read_all};
+use text_io::{INPUT_LIMIT, read_all};
 
 // Reads the lines of several contexts, and hands what these say to the sink a piece at a time.
 pub(crate) fn run_contexts<S: Source, K: Sink>(
@@ -51,6 +51,5 @@ fn write_output<K: Sink>(alloc: Global, contexts: &mut Admin, sink: &mut K) -> R
         (K.calls sink.old) (K.calls sink.new) }
     ensures part { WritesPart (K.taken sink.old) (K.taken sink.new) (left_text contexts.old) }
 {
-    pump(alloc, contexts, sink)?;
-    Ok(())
+    hand_over(alloc, contexts, sink)
 }

@@ -20,12 +20,11 @@ use damon_control::{MAX_WORK, Script};
 use damon_types::Sink;
 use quota_goal::Goals;
 use reclaim_run::Reclaimer;
-use run_status::Status;
+use run_status::{Status, hand_over};
 use script_run::{Callbacks, NoCallbacks, open_player_with};
 use snapshot_print::Form;
 use std::alloc::Global;
 use std::marker::Brand;
-use text_io::pump;
 use tune_run::{Named, TunedQuotas};
 
 // Runs a script, and hands its report to the sink.
@@ -114,6 +113,5 @@ fn write_played<C: Callbacks + Drop, K: Sink>(
         (report_with C.callbacks (writing_of form) (said_by script)) }
 {
     let mut player = open_player_with(alloc, script, form, callbacks)?;
-    pump(alloc, &mut player, sink)?;
-    Ok(())
+    hand_over(alloc, &mut player, sink)
 }

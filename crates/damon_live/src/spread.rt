@@ -1,11 +1,14 @@
-// A pace under which the threads of a run begin together, and its passes are spread over its touches.
+// A pace under which the passes of a run are spread over its touches.
 use crate::pace::{Pace, Spot};
 use damon_control::LiveScript;
-use std::sync::atomic::{AtomicBool, AtomicU32, AtomicU64, Ordering};
+use std::sync::atomic::{AtomicBool, AtomicU64, Ordering};
 use std::thread;
 
 // The most turns for which a thread waits. A thread that could not be made is never there.
 const MAX_TURNS: u32 = 100_000;
+
+// For how many of them it only looks. A yield may take milliseconds, and what others do meanwhile takes less.
+const LOOKS: u32 = 4_000;
 
 // How often a worker counts its touches at least, and the most that it counts at once.
 const COUNTS: u32 = 64;
@@ -14,19 +17,17 @@ const MAX_COUNT: u64 = 64;
 
 /// Spreads the passes of a run over its touches, and then holds each spot as another pace does.
 ///
-/// The first pass is prepared once all threads have begun, and workers begin to touch once it has cleared its
-/// pages. A pass is checked when its share of all touches is made, so that it finds some of them. Each wait
-/// has an end, and after one that took too long there are no more.
+/// Workers begin to touch once the first pass has cleared its pages. A pass is checked when its share of all
+/// touches is made, so that it finds some of them. Each wait has an end, and after one that took too long there
+/// are no more.
 #[derive(Drop)]
 pub(crate) struct Spread<'a, P> {
     pace: &'a P,
-    // The workers with touches and the controllers with calls, and how many of them have begun.
-    threads: u32,
-    begun: AtomicU32,
     // Whether the first pass has cleared its pages.
     cleared: AtomicBool,
-    // How many touches come to each pass.
-    share: u64,
+    // All touches and all passes of the script.
+    touches: u64,
+    passes: u32,
     // How many touches were made, as far as they are counted: a worker counts where all bits of this mask
     // are set in the index of a touch.
     touched: AtomicU64,
@@ -41,37 +42,22 @@ impl<'a, P> Spread<'a, P> {
     /// A pace for a run of this script.
     pub(crate) fn new(script: &LiveScript, pace: &'a P) -> Spread<'a, P> {
         let workers = script.workers.len();
-        let mut threads = 0;
         let mut touches = 0;
         for trace in script.workers.as_slice() {
-            threads = one_more(threads, trace.len());
             touches = u64::saturating_add(touches, u64::from(trace.len()));
-        }
-        for calls in script.controllers.as_slice() {
-            threads = one_more(threads, calls.len());
         }
         let most = part_of(part_of(touches, workers), COUNTS).min(MAX_COUNT) as u32;
         let mask = most.next_power_of_two() - 1;
         Spread {
             pace,
-            threads,
-            begun: AtomicU32::new(0),
             cleared: AtomicBool::new(false),
-            share: part_of(touches, script.passes),
+            touches,
+            passes: script.passes,
             touched: AtomicU64::new(0),
             mask,
             uncounted: u64::from(mask).saturating_mul(u64::from(workers)),
             late: AtomicBool::new(false),
         }
-    }
-}
-
-// One thread more, if it has something to do.
-fn one_more(threads: u32, steps: u32) -> u32 {
-    if steps == 0 {
-        threads
-    } else {
-        threads.saturating_add(1)
     }
 }
 
@@ -89,23 +75,20 @@ impl<P: Pace> Spread<'_, P> {
     fn hold<T: Fn() -> bool>(&self, is_so: T)
         requires { T.IsAlwaysCallable is_so }
     {
-        for _ in 0..MAX_TURNS {
+        for turn in 0..MAX_TURNS {
             if is_so() || self.late.load(Ordering::SeqCst) {
                 return;
             }
-            thread::yield_now();
+            if turn >= LOOKS {
+                thread::yield_now();
+            }
         }
         self.late.store(true, Ordering::SeqCst);
     }
 
-    // Says that a thread has begun.
-    fn begin(&self) {
-        self.begun.fetch_add(1, Ordering::SeqCst);
-    }
-
     // Waits until the touches up to the share of a pass are made, but for those that are not counted yet.
     fn hold_pass(&self, pass: u64) {
-        let share = self.share.saturating_mul(pass);
+        let share = part_of(self.touches.saturating_mul(pass), self.passes);
         self.hold(|| {
             let touched = self.touched.load(Ordering::SeqCst);
             touched.saturating_add(self.uncounted) >= share
@@ -124,15 +107,8 @@ impl<P: Pace> Spread<'_, P> {
 impl<P: Pace> Pace for Spread<'_, P> {
     fn wait(&self, spot: Spot) {
         match spot {
-            Spot::BeforePass { pass: 1 } => {
-                self.hold(|| self.begun.load(Ordering::SeqCst) >= self.threads)
-            }
             Spot::Armed { pass: 1 } => self.cleared.store(true, Ordering::SeqCst),
-            Spot::BeforeTouch { index: 0, .. } => {
-                self.begin();
-                self.hold(|| self.cleared.load(Ordering::SeqCst));
-            }
-            Spot::BeforeCall { index: 0, .. } => self.begin(),
+            Spot::BeforeTouch { index: 0, .. } => self.hold(|| self.cleared.load(Ordering::SeqCst)),
             _ => {}
         }
         self.pace.wait(spot);

@@ -30,7 +30,7 @@ use run_status::Status;
 use std::alloc::Global;
 use std::sync::Wait;
 use std::thread::Threads;
-use text_io::{INPUT_LIMIT, pump, read_all};
+use text_io::{INPUT_LIMIT, read_all};
 
 /// The most results of loads that a journal keeps: the passes of a script times its `cap`.
 pub const MAX_RESULTS: u32 = 4_194_304;
@@ -270,6 +270,5 @@ fn hand_over<K: Sink>(alloc: Global, run: &AloneRun, sink: &mut K) -> Result<(),
         (journal_text (live_said run.now.script) run.now.journal.value (receipts_said run.now.receipts)) }
 {
     let mut parts = TextParts::new(&run.script, &run.journal, &run.receipts, &run.monitor);
-    pump(alloc, &mut parts, sink)?;
-    Ok(())
+    run_status::hand_over(alloc, &mut parts, sink)
 }

@@ -1,2 +1,1 @@
 mod Pumps
-pub mod Lemmas

@@ -1,8 +1,7 @@
 use Rattle.std.proofs.Common.{[], refl}
-use Rattle.std.proofs.lemmas.Result.{err_from_is_err_and}
+use Rattle.std.proofs.lemmas.Result.{err_from_is_err_and, on_ok_weaker}
 use Rattle.damon_control.specs.ScriptView.{said_by}
-use Rattle.text_io.proofs.Lemmas.{EndsAtFault-none, EndsAtFault-not}
-use Rattle.run_status.proofs.Lemmas.{pump_ends, pump_writes}
+use Rattle.text_io.proofs.Lemmas.{EndsAtFault-none}
 use Rattle.damon_app.proofs.Counting.{no_fault_of_memory}
 use Rattle.damon_app.proofs.run.write_played.Goals as goal
 
@@ -11,24 +10,8 @@ returns-in_err-player-clause-writes g c =
     let p = err_from_is_err_and c.from_residual.result c.from_residual.ensures.1 in
     rw (p.1, p.2) (EndsAtFault-none (g.K.Sink.calls c.args.sink.now) no_fault_of_memory)
 
-pub returns-in_err-pump-clause-answers : goal.returns-in_err-pump-clause-answers
-returns-in_err-pump-clause-answers g c =
-    let p = err_from_is_err_and c.from_residual-in_err-pump.result c.from_residual-in_err-pump.ensures.1 in
-    rw (p.1, p.2) (pump_ends c.in_err-pump.field-0.0)
-
-pub returns-in_err-pump-clause-writes : goal.returns-in_err-pump-clause-writes
-returns-in_err-pump-clause-writes g c =
-    let p = err_from_is_err_and c.from_residual-in_err-pump.result c.from_residual-in_err-pump.ensures.1 in
-    rw (p.1, p.2) (pump_writes c.in_err-pump.field-0.0 c.in_err-pump.ensures.writes)
-
-pub returns-in_err-pump-clause-part : goal.returns-in_err-pump-clause-part
-returns-in_err-pump-clause-part g c = c.in_err-pump.ensures.part _ (said_by c.args.script, c.args.form, [], c.in_ok-player.ensures, refl)
-
 pub returns-clause-all : goal.returns-clause-all
-returns-clause-all g c = c.in_ok-pump.ensures.all _ (said_by c.args.script, c.args.form, [], c.in_ok-player.ensures, refl)
+returns-clause-all g c = on_ok_weaker c.hand_over.result (λ appends. appends _ (said_by c.args.script, c.args.form, [], c.in_ok-player.ensures, refl)) c.hand_over.ensures.all
 
 pub returns-clause-part : goal.returns-clause-part
-returns-clause-part g c = c.in_ok-pump.ensures.part _ (said_by c.args.script, c.args.form, [], c.in_ok-player.ensures, refl)
-
-pub returns-clause-writes : goal.returns-clause-writes
-returns-clause-writes g c = EndsAtFault-not (λ e. cc e) (λ e. cc e) c.in_ok-pump.ensures.writes
+returns-clause-part g c = c.hand_over.ensures.part _ (said_by c.args.script, c.args.form, [], c.in_ok-player.ensures, refl)

@@ -1,26 +1,8 @@
-use Rattle.std.proofs.lemmas.Result.{err_from_is_err_and}
-use Rattle.text_io.proofs.Lemmas.{EndsAtFault-not}
-use Rattle.run_status.proofs.Lemmas.{pump_ends, pump_writes}
+use Rattle.std.proofs.lemmas.Result.{on_ok_weaker}
 use Rattle.damon_live.proofs.top.hand_over.Goals as goal
 
-pub returns-in_err-pump-clause-answers : goal.returns-in_err-pump-clause-answers
-returns-in_err-pump-clause-answers g c =
-    let p = err_from_is_err_and c.from_residual.result c.from_residual.ensures.1 in
-    rw (p.1, p.2) (pump_ends c.in_err-pump.field-0.0)
-
-pub returns-in_err-pump-clause-writes : goal.returns-in_err-pump-clause-writes
-returns-in_err-pump-clause-writes g c =
-    let p = err_from_is_err_and c.from_residual.result c.from_residual.ensures.1 in
-    rw (p.1, p.2) (pump_writes c.in_err-pump.field-0.0 c.in_err-pump.ensures.writes)
-
-pub returns-in_err-pump-clause-part : goal.returns-in_err-pump-clause-part
-returns-in_err-pump-clause-part g c = c.in_err-pump.ensures.part _ c.new-parts.ensures
-
 pub returns-clause-all : goal.returns-clause-all
-returns-clause-all g c = c.in_ok-pump.ensures.all _ c.new-parts.ensures
+returns-clause-all g c = on_ok_weaker c.hand_over.result (λ appends. appends _ c.new-parts.ensures) c.hand_over.ensures.all
 
 pub returns-clause-part : goal.returns-clause-part
-returns-clause-part g c = c.in_ok-pump.ensures.part _ c.new-parts.ensures
-
-pub returns-clause-writes : goal.returns-clause-writes
-returns-clause-writes g c = EndsAtFault-not (λ e. cc e) (λ e. cc e) c.in_ok-pump.ensures.writes
+returns-clause-part g c = c.hand_over.ensures.part _ c.new-parts.ensures
