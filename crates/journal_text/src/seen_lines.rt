@@ -41,9 +41,11 @@ pub(crate) fn write_seen(
 ) -> Result<u32, AllocError>
     requires { AllByRecursion (λ r. r.page < pages_of own.now.space.now) own.now.receipts.now.list }
     ensures ok { IfOk result (λ at. out.new.items
-        ++ lines_text (map (spelled_seen own.now.space.now own.now.worker) (drop at own.now.receipts.now.list))
+        ++ lines_text (map (spelled_seen own.now.space.now own.now.worker)
+        (drop at own.now.receipts.now.list))
         ≡ out.old.items
-        ++ lines_text (map (spelled_seen own.now.space.now own.now.worker) (drop next own.now.receipts.now.list))) }
+        ++ lines_text (map (spelled_seen own.now.space.now own.now.worker)
+        (drop next own.now.receipts.now.list))) }
     ensures stops { IfOk result (λ at. at < length own.now.receipts.now.list → limit ≤ vec_len out.new) }
     ensures kept { KeepsFront out.old.items out.new.items }
 {
