@@ -1,6 +1,6 @@
 -- Candidates, gathered row by row.
 use Rattle.std.proofs.Common.{◌≡◌, ◌≢◌, ℕ, zero, suc, ◌+◌, ◌≤◌, ◌<◌, Bool, true, false, cond, List, [], ◌∷◌, ◌++◌, Option, Some, None, length, length-append, map, take, drop, get_or, refl, sym, ap, ◌∙◌, arith}
-use Rattle.std.specs.Prelude.{◌&&◌, All, IfSome, nat_lt, count_by, filter, filter_map, slice_get}
+use Rattle.std.specs.Prelude.{◌&&◌, All, AllPairs, IfSome, nat_lt, count_by, filter, filter_map, slice_get}
 use Rattle.std.specs.List.{cons_option}
 use Rattle.std.proofs.lemmas.Bool.Decides.{nat_tests}
 use Rattle.std.proofs.lemmas.List.Elements.{All-cons, All-nil, All-weaker, filter-append, filter_map-append}
@@ -12,7 +12,7 @@ use Rattle.damon_types.specs.declared.row.Row.{Row}
 use Rattle.damon_types.specs.declared.scheme.Scheme.{Scheme}
 use Rattle.damon_types.specs.declared.space.Target.{Target}
 use Rattle.damon_types.specs.Ranges.{page_total}
-use Rattle.damon_types.specs.Span.{span_of, spans}
+use Rattle.damon_types.specs.Span.{Span, span_of, spans}
 use Rattle.region_list.specs.Rows.{no_row}
 use Rattle.region_list.proofs.Lemmas.{RiseFrom}
 use Rattle.scheme_filter.specs.Passes.{passes}
@@ -57,6 +57,14 @@ candidate_is space ranges aggr scheme r =
     let c : Candidate = record { target = r.target; start = r.start; score = score_of r (page_total ranges) aggr scheme; passing = n; share = 0 } in
     if_kept (IsOfRow (passes scheme.filters space ranges) r) (is_match scheme.pattern r && nat_lt 0 n) c
     (λ kept. record { start = refl; target = refl; passing = refl; some = grind (arith, nat_tests); share = refl })
+
+-- starts that rise pair by pair rise from the least page that none is below
+pub rise_of : (p : ℕ) (ss : List Span) → ((i : ℕ) (d : Span) → i < length ss → p ≤ (get_or ss i d).start) → AllPairs (λ s t. s.start < t.start) ss → RiseFrom p ss
+rise_of p [] low pairs = tt
+rise_of p (s ∷ ss) low pairs =
+    let later : (i : ℕ) (d : Span) → i < length ss → s.start + 1 ≤ (get_or ss i d).start =
+      λ i d within. let after : s.start < (get_or ss i d).start = pairs 0 (suc i) d (omega arith) (omega (arith, within)) in omega (arith, after) in
+    (low 0 s (omega arith), rise_of (s.start + 1) ss later (λ i j d before within. pairs (suc i) (suc j) d (omega (arith, before)) (omega (arith, within))))
 
 -- no row starts before the page from which starts rise
 starts_rise : (p : ℕ) (rows : List Row) (i : ℕ) (d : Row) → RiseFrom p (spans rows) → i < length rows → p ≤ (get_or rows i d).start

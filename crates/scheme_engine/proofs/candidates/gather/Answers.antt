@@ -5,13 +5,13 @@ use Rattle.std.proofs.lemmas.List.{length-take, take_all}
 use Rattle.std.proofs.lemmas.List.Elements.{All-get_or}
 use Rattle.damon_types.specs.declared.row.Row.{Row}
 use Rattle.damon_types.specs.Ranges.{page_total}
-use Rattle.damon_types.specs.Span.{span_of}
+use Rattle.damon_types.specs.Span.{span_of, spans}
 use Rattle.region_list.specs.Rows.{no_row, row_at}
 use Rattle.scheme_match.specs.Match.{is_match}
 use Rattle.priority.specs.Candidates.{CandidateList}
 use Rattle.priority.specs.Score.{score_by, score_of}
 use Rattle.scheme_engine.specs.Candidates.{candidate_of, candidates_of}
-use Rattle.scheme_engine.proofs.GatherLemmas.{filter_map_more, found_at, kept_match, length-filter_map, length-found, length-seen, seen, seen_all, seen_at, seen_rise, start_before, tested_part, tried_more}
+use Rattle.scheme_engine.proofs.GatherLemmas.{filter_map_more, found_at, kept_match, length-filter_map, length-found, length-seen, rise_of, seen, seen_all, seen_at, seen_rise, start_before, tested_part, tried_more}
 use Rattle.scheme_engine.proofs.PlaceLemmas.{row_held, some_pages}
 use Rattle.scheme_engine.proofs.candidates.gather.Goals as goal
 
@@ -90,7 +90,7 @@ add-requires-clause-distinct c =
     let here : c.at-row.result ≡ get_or kept k no_row = c.at-row.ensures ∙ ap (λ (rs : List Row). get_or rs (from + get_or found k 0) no_row) c.rows-rows.ensures.rows ∙ found_at rows kept from n number found k c.loop-k-test.true room below are in
     let p = is_match c.args.served.now.scheme.now.pattern in
     let there : c.at-row.result ≡ get_or (seen p rows from n) (from + k) no_row = here ∙ sym (seen_at p rows from n k no_row c.parts.invariant.within) in
-    let before = start_before c.args.served.now.space.now c.args.regions.now.ranges c.args.served.now.aggr c.args.served.now.scheme.now 0 (seen p rows from n) (from + k) no_row (seen_rise p 0 from n rows c.len-count.ensures.tiles.rise) (omega (arith, length-seen p rows from n c.parts.invariant.within, many, c.loop-k-test.true)) in
+    let before = start_before c.args.served.now.space.now c.args.regions.now.ranges c.args.served.now.aggr c.args.served.now.scheme.now 0 (seen p rows from n) (from + k) no_row (seen_rise p 0 from n rows (rise_of 0 (spans rows) (λ i d within. omega arith) c.len-count.ensures.tiles.rise)) (omega (arith, length-seen p rows from n c.parts.invariant.within, many, c.loop-k-test.true)) in
     rw (there, c.loop-k.invariant.list) before
 
 pub loop-k-preserved : goal.loop-k-preserved
