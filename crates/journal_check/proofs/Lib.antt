@@ -1,5 +1,4 @@
 pub mod OpenHits
-pub mod SplitLine
 pub mod Lefts
 pub mod LastLines
 pub mod HeadTells

@@ -12,10 +12,9 @@ ghost use Rattle.journal_text.specs.Reading.{read_journal, said_from};
 ghost use Rattle.journal_text.specs.Text.{last_text};
 
 use crate::journal_lines::JournalLines;
-use crate::split_line::split_line;
 use damon_control::{JournalHead, MAX_BYTES, ReadFail, read_journal_head};
 use damon_core::Monitor;
-use line_text::{parts_are_pieces, pieces_are_parts};
+use line_text::{parts_are_pieces, pieces_are_parts, split_line};
 use run_journal::VerifyFault;
 use script_lines::{body_lines_are_spelled, same_word};
 use snapshot_print::{Form, print_end, print_show};

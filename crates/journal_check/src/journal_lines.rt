@@ -9,9 +9,8 @@ ghost use Rattle.journal_check.specs.LinesLeft.{IsFault, IsShort, WantsLine, lin
 ghost use Rattle.journal_text.specs.Place.{InBlock, JournalPlace};
 ghost use Rattle.run_journal.specs.Replay.{JournalValue};
 
-use crate::split_line::split_line;
 use damon_types::RangeSpec;
-use line_text::{parts_are_pieces, pieces_are_parts};
+use line_text::{parts_are_pieces, pieces_are_parts, split_line};
 use run_journal::VerifyFault;
 use script_lines::{leading_range, spelled_lines_are_read};
 

@@ -14,8 +14,6 @@ mod laws;
 mod receipts;
 /// A journal that is carried out from one aggregation to the next.
 mod replayer;
-/// The lines of a text.
-mod split_line;
 /// The check of a journal text.
 mod verifying;
 

@@ -7,10 +7,8 @@ ghost use Rattle.journal_check.specs.SeenFront.{BeginsWithSeen};
 ghost use Rattle.journal_text.specs.SeenLine.{PlaceFits};
 
 use crate::receipts::list::Seen;
-use damon_types::{Space, pages_rise};
-use line_text::{
-    leading_address, leading_number, leading_numbers_are_spelled, strip, stripped_front_was_first,
-};
+use damon_types::Space;
+use line_text::{leading_address, leading_number, leading_numbers_are_spelled, strip};
 use run_journal::Receipt;
 
 // The receipt of the line at the front of a text, and the text after that line. A shortcut before the
@@ -34,9 +32,8 @@ fn leading_page<'a>(space: &Space, text: &'a [u8]) -> Option<(u32, &'a [u8])>
     ensures fits { IfSome result (λ x. PlaceFits space.now x.0) }
     ensures below { IfSome result (λ x. x.0 < pages_of space.now) }
 {
-    // For their clauses alone: what numbers are read from, and where pages end.
+    // For its clause alone: what an address is read from.
     leading_numbers_are_spelled();
-    pages_rise();
     let (target, words) = leading_field(text, b" ", u64::from(u32::MAX))?;
     let (addr, rest) = leading_address(strip(words, b" ")?)?;
     let page = space.page_of(target as u32, addr)?;
@@ -53,9 +50,6 @@ fn leading_field<'a>(text: &'a [u8], name: &[u8], most: u64) -> Option<(u64, &'a
     ensures spelled { IfSome result (λ x. text.now ≡ name.now ++ (decimal x.0 ++ x.1.now)) }
     ensures most { IfSome result (λ x. x.0 ≤ most) }
 {
-    // For their clauses alone: what is stripped, and what numbers are read from.
-    stripped_front_was_first();
-    leading_numbers_are_spelled();
     let words = strip(text, name)?;
     let (number, rest) = leading_number(words, most)?;
     Some((number, rest))

@@ -10,9 +10,9 @@ ghost use Rattle.journal_text.specs.SeenLine.{seen_line, seen_of};
 use crate::laws::leading_receipts_are_read;
 use crate::receipts::front::leading_seen;
 use crate::receipts::list::{Seen, SeenList};
-use crate::split_line::split_line;
-use damon_types::{Space, pages_rise};
+use damon_types::Space;
 use journal_text::is_seen_line;
+use line_text::split_line;
 use run_journal::Receipt;
 use script_lines::{
     ScriptKind, arguments, four_words, read_8, read_32, read_64, read_byte_address, same_word,
@@ -121,8 +121,6 @@ fn said_by(space: &Space, line: &[u8]) -> Option<Seen>
     ensures exact { result ≡ seen_of space.now (seen_said line.now) }
     ensures within { IfSome result (λ x. x.1.page < pages_of space.now) }
 {
-    // For its clause alone: the page of a byte is a page of the space.
-    pages_rise();
     let Ok((worker, (target, (addr, tag)))) = read_seen_words(line) else {
         return None;
     };
