@@ -4,6 +4,7 @@ mod SlotFacts
 mod Setting
 mod Serving
 mod Served
+mod PagesKept
 mod Keeping
 mod Shown
 mod Tallying
