@@ -7,6 +7,7 @@ mod ServeParts
 mod Serving
 mod Walks
 mod Served
+mod PagesKept
 mod Keeping
 mod Shown
 mod Tallying

@@ -10,8 +10,9 @@ use Rattle.damon_core.specs.Note.{word_of}
 use Rattle.damon_core.specs.State.{Core, State, row_count}
 use Rattle.damon_core.specs.Event.{Event, prepare, load, observe, aggregate, IsLoading, IsObserving, load_index, next_hit}
 use Rattle.damon_core.specs.After.{after, by_load, by_observe, passed_core, prepared_core}
-use Rattle.damon_core.specs.Aggregate.{aggregated, core_after_aggregation}
+use Rattle.damon_core.specs.Aggregate.{core_after_aggregation}
 use Rattle.damon_core.specs.Makes.{Makes}
+use Rattle.damon_core.proofs.Lemmas.{word_aggregated}
 use Rattle.damon_core.specs.Reached.{AllFit, Reached}
 use Rattle.damon_core.specs.Stands.{MonitorView, Stands}
 use Rattle.sampler.specs.Draws.{drawn, drawn_rest}
@@ -112,15 +113,15 @@ prepare_advances stream m new pages old_source new_source ws idle count drew res
     })
     drew rest event (ap (λ (c : Core). c.ticks) shown) (ap (λ (c : Core). c.space) shown) (ap (λ (c : Core). c.regions.cap) shown)
 
-pub aggregate_advances : ((s : State) (words : List ℕ) (page : ℕ) → word_of (aggregated words s).notes page ≡ word_of s.notes page) → {R : Type 0} (stream : R → Stream) (m new : MonitorView) (pages : PagesView) (old_source new_source : R) (ws : List ℕ) → m.core.phase ≡ Due → length ws ≡ 2 * m.core.attrs.max → ws ≡ drawn (2 * m.core.attrs.max) (stream old_source) → stream new_source ≡ drawn_rest (2 * m.core.attrs.max) (stream old_source) → new.core ≡ core_after_aggregation ws m.slots m.core → Makes Stands m new (aggregate ws ∷ []) → IsAdvance stream (record { monitor = m; pages = pages; source = old_source }) (record { monitor = new; pages = pages; source = new_source }) 1
-aggregate_advances kept stream m new pages old_source new_source ws due count drew rest shown event =
+pub aggregate_advances : {R : Type 0} (stream : R → Stream) (m new : MonitorView) (pages : PagesView) (old_source new_source : R) (ws : List ℕ) → m.core.phase ≡ Due → length ws ≡ 2 * m.core.attrs.max → ws ≡ drawn (2 * m.core.attrs.max) (stream old_source) → stream new_source ≡ drawn_rest (2 * m.core.attrs.max) (stream old_source) → new.core ≡ core_after_aggregation ws m.slots m.core → Makes Stands m new (aggregate ws ∷ []) → IsAdvance stream (record { monitor = m; pages = pages; source = old_source }) (record { monitor = new; pages = pages; source = new_source }) 1
+aggregate_advances stream m new pages old_source new_source ws due count drew rest shown event =
     draws_advance stream m new pages old_source new_source (aggregate ws) (2 * m.core.attrs.max) ws
     (record {
       next = λ s t same is.
           (ap (λ p. event_in p s t) (ap (λ (c : Core). c.phase) (sym same) ∙ due)
           ∙ ap aggregate (ap (λ n. drawn (2 * n) t) (ap (λ (c : Core). c.attrs.max) (sym same)) ∙ sym is));
       taken = count;
-      pages = λ s p. kept s ws p;
+      pages = λ s p. word_aggregated s ws p;
     })
     drew rest event (ap (λ (c : Core). c.ticks) shown) (ap (λ (c : Core). c.space) shown) (ap (λ (c : Core). c.regions.cap) shown)
 

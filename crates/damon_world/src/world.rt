@@ -74,8 +74,6 @@ impl<R: Jump + Drop> World<R> {
         ensures reached { IfOk result (λ w. ReachedByHit (opening (value_of setup.now))) }
         ensures tags { IfOk result (λ w. KeepsTags w) }
     {
-        // For its clause alone: no page was touched or cleared before the first event.
-        damon_core::pages_are_kept();
         let pages = PlainPages::new(alloc, setup.space.pages())?;
         World::with_pages(alloc, setup, pages, words)
     }
@@ -87,8 +85,6 @@ impl<R: Jump + Drop> World<R> {
         ensures opening { IfOk result (λ w. StandsFor w (opening (value_of setup.now))) }
         ensures reached { IfOk result (λ w. ReachedByHit (opening (value_of setup.now))) }
     {
-        // For its clause alone: no page was touched or cleared before the first event.
-        damon_core::pages_are_kept();
         let pages = PlainPages::without_tags(alloc, setup.space.pages())?;
         World::with_pages(alloc, setup, pages, words)
     }
@@ -296,7 +292,6 @@ impl<R: Jump + Drop> World<R> {
         ensures one { result ≡ 1 }
         ensures advance { IsAdvance R.stream self.old self.new 1 }
     {
-        damon_core::pages_are_kept();
         let attrs = self.monitor.attrs();
         draw_all(&mut self.source, 2 * attrs.max as usize, &mut self.drawn);
         self.monitor.aggregate(&self.drawn);

@@ -23,4 +23,4 @@ returns-clause-advance g c =
     let rest = c.draw_all.ensures.rest ∙ ap (λ n. drawn_rest n (stream inside.source)) most in
     let new : WorldView g.row.R.Denot = record { monitor = c.aggregate.new.self; pages = inside.pages; source = c.draw_all.new.source } in
     subst (λ w. IsAdvance stream w new 1) c.self.view_is
-    (aggregate_advances c.pages_are_kept.ensures.aggregated stream inside.monitor c.aggregate.new.self inside.pages inside.source c.draw_all.new.source c.deref.result.now due len drew rest c.aggregate.ensures.core c.aggregate.ensures.event)
+    (aggregate_advances stream inside.monitor c.aggregate.new.self inside.pages inside.source c.draw_all.new.source c.deref.result.now due len drew rest c.aggregate.ensures.core c.aggregate.ensures.event)

@@ -3,6 +3,7 @@ use Rattle.std.specs.Prelude.{replicate}
 use Rattle.damon_types.specs.Space.{pages_of}
 use Rattle.live_commit.specs.SetupView.{value_of}
 use Rattle.damon_core.specs.State.{opening_notes}
+use Rattle.damon_core.proofs.Lemmas.{word_opening}
 use Rattle.damon_world.specs.Pages.{ArePagesOf, PagesView}
 use Rattle.damon_world.proofs.Notes.{fresh_pages}
 use Rattle.damon_world.proofs.world.World.without_tags.Goals as goal
@@ -15,4 +16,4 @@ with_pages-requires-clause-fresh g c =
     let fresh : PagesView = record { marks = replicate n false; tags = [] } in
     subst (λ v. ArePagesOf v notes (pages_of setup.space)) (sym c.in_ok-pages.ensures)
     (subst (λ k. ArePagesOf fresh notes k) c.pages.ensures
-    (fresh_pages notes ([]) n (c.pages_are_kept.ensures.opening (value_of setup)) (λ p. refl)))
+    (fresh_pages notes ([]) n (word_opening (value_of setup)) (λ p. refl)))
