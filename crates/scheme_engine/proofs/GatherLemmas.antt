@@ -63,7 +63,7 @@ pub rise_of : (p : ℕ) (ss : List Span) → ((i : ℕ) (d : Span) → i < lengt
 rise_of p [] low pairs = tt
 rise_of p (s ∷ ss) low pairs =
     let later : (i : ℕ) (d : Span) → i < length ss → s.start + 1 ≤ (get_or ss i d).start =
-      λ i d within. let after : s.start < (get_or ss i d).start = pairs 0 (suc i) d (omega arith) (omega (arith, within)) in omega (arith, after) in
+    λ i d within. let after : s.start < (get_or ss i d).start = pairs 0 (suc i) d (omega arith) (omega (arith, within)) in omega (arith, after) in
     (low 0 s (omega arith), rise_of (s.start + 1) ss later (λ i j d before within. pairs (suc i) (suc j) d (omega (arith, before)) (omega (arith, within))))
 
 -- no row starts before the page from which starts rise
