@@ -1,8 +1,9 @@
-use Rattle.std.proofs.Common.{◌≡◌, ◌+◌, ◌-◌, ◌++◌, length, take, drop, ap, sym, subst, ◌∙◌, arith}
+use Rattle.std.proofs.Common.{◌≡◌, ◌+◌, ◌-◌, ◌++◌, take, drop, ap, sym, subst, ◌∙◌, arith}
 use Rattle.std.specs.List.{flat_map}
 use Rattle.std.proofs.lemmas.List.{length-drop, take_all}
 use Rattle.line_text.specs.Appended.{KeepsFront}
 use Rattle.line_text.proofs.Lemmas.{keeps-append, keeps_through}
+use Rattle.snapshot_print.specs.declared.line_groups.TheConstants.{GROUP_ROOM}
 use Rattle.snapshot_print.proofs.Rows.{next_lines}
 use Rattle.snapshot_print.proofs.row_groups.print_rows_from.Goals as goal
 
@@ -16,7 +17,7 @@ groups-preserved g c =
     let many : (next + count) - next ≡ count = omega arith in
     let written = c.rows_before-start.ensures.written ∙ ap (λ n. flat_map line (take n (drop next rows))) many in
     let start = c.rows_before-start.result in
-    let whole = take_all (2304 - start) (drop start c.rows_before-start.new.lines) (omega (arith, c.rows_before-start.auto.lines, length-drop start c.rows_before-start.new.lines)) in
+    let whole = take_all (GROUP_ROOM - start) (drop start c.rows_before-start.new.lines) (omega (arith, c.rows_before-start.auto.lines, length-drop start c.rows_before-start.new.lines)) in
     let now = c.in_ok-extend_from_slice.ensures.items ∙ ap (λ t. c.groups.out.items ++ t) (whole ∙ written) in
     record {
       within = omega (arith, c.min-count.ensures, c.count-in-groups-2.ensures, kept.within);
