@@ -1,6 +1,7 @@
 -- A line that is accepted begins with its word, and no byte of it is an LF.
 use Rattle.std.proofs.Common.{◌≡◌, ◌≢◌, ◌∷◌, [], ◌&&◌, ◌||◌, ◌==◌, ℕ, Bool, true, false, not, List, drop, length, codes, Ok, Err, refl, sym, ap, ◌∙◌}
 use Rattle.std.specs.Prelude.{All, Result, if◌then◌else◌}
+use Rattle.std.specs.Cmp.Lexicographic.{same_text}
 use Rattle.std.specs.List.{AllByRecursion, list_all}
 use Rattle.std.proofs.lemmas.List.Elements.{All-from_recursion}
 use Rattle.damon_types.specs.declared.range.RangeSpec.{RangeSpec}
@@ -28,6 +29,7 @@ use Rattle.script_lines.specs.Blocks.{block_line, passes_line, touches_within, t
 use Rattle.script_lines.specs.Refusal.{◌>>=◌}
 use Rattle.damon_control.specs.Script.{AtAttrs, AtCap, AtEnd, AtHeader, AtRanges, AtSchemes, AtSeed, AtTargets, AtUnit, Body, InBody, InCommit, Place, Within, after_body, after_commit, after_live, after_ranges, after_schemes, after_setup, after_targets, after_within, header_of, place_after, scheme_line_in, version_in, version_said}
 use Rattle.script_lines.specs.Words.{alone, arguments, begins_with, no_word, number_8, number_32, number_64, one_word, same_word}
+use Rattle.script_lines.proofs.Lemmas.{begins_other}
 use Rattle.damon_control.proofs.Leads.{leads}
 use Rattle.damon_control.proofs.OneSpelling.{scheme_in-Ok}
 use Rattle.damon_control.proofs.Steps.{bind-Ok, either_way, tested_way}
