@@ -6,12 +6,9 @@
 mod ages;
 /// The clearing of counts.
 mod clearing;
-/// Laws of aging and clearing.
-mod laws;
 /// The threshold of an aggregation.
 mod thresholds;
 
 pub use ages::age_all;
 pub use clearing::clear_counts;
-pub use laws::{aged_rows_are_kept, cleared_rows_are_kept};
 pub use thresholds::threshold;

@@ -1,13 +1,10 @@
 -- What a commit that is accepted makes of notes, phases and regions.
 use Rattle.std.proofs.Common.{◌≡◌, ℕ, ◌≤◌, ◌<◌, true, false, not, cond, List, ◌∷◌, length, Option, Some, None, Ok, refl, sym, ap, ◌∙◌, subst, arith}
 use Rattle.std.specs.List.{AllByRecursion}
-use Rattle.std.specs.Bool.{Decides}
-use Rattle.std.specs.Prelude.{Result, ◌&&◌, ◌==◌}
+use Rattle.std.specs.Prelude.{Result}
 use Rattle.std.specs.Result.{result_and}
-use Rattle.std.proofs.lemmas.Bool.Decides.{nat_tests}
 use Rattle.std.proofs.lemmas.List.{length-map}
 use Rattle.std.proofs.lemmas.List.Elements.{recursion_from_All}
-use Rattle.std.proofs.lemmas.Slice.Eq.{slice_eq-Decides}
 use Rattle.std.specs.Option.{unwrap_or, option_map_or}
 use Rattle.damon_types.specs.declared.attrs.Attrs.{Attrs}
 use Rattle.damon_types.specs.declared.range.Range.{Range}
@@ -69,13 +66,6 @@ committed_notes_hold P setting dropping measuring costing c notes holds = by_cos
     by_cost None after holds = holds
     by_cost (Some part) after holds = costing part.slot part.nanos after holds
 
-span_decides : (s t : Span) → Decides ((s.target == t.target) && ((s.start == t.start) && (s.pages == t.pages))) (s ≡ t)
-span_decides s t = (λ same. grind (arith, nat_tests), λ is. rw is (grind (arith, nat_tests)))
-
--- spans that are compared as the same are equal
-same_equal : (a b : List Span) → same_spans a b ≡ true → a ≡ b
-same_equal a b = (slice_eq-Decides span_decides a b (same_spans a b) refl).0
-
 -- rows that lie where others do are as many
 pub same_length : (a b : List Row) → spans a ≡ spans b → length a ≡ length b
 same_length a b lies = sym (length-map a span_of) ∙ ap (λ (ss : List Span). length ss) lies ∙ length-map b span_of
@@ -98,7 +88,7 @@ pub by_phase_after : (P : Phase → Type 0) (ph : Phase) (old new : List Row) �
     → (ph ≡ Armed → spans old ≡ spans new → P Armed) → (ph ≡ Armed → P Void) → (ph ≡ Void → P Void) → (ph ≡ Idle → P Idle) → (ph ≡ Due → P Due)
     → P (phase_after_commit ph old new)
 by_phase_after P Armed old new allows armed voided void idle due = elim (same_spans (spans old) (spans new)) as (λ b. same_spans (spans old) (spans new) ≡ b → P (cond (not b) Void Armed)) [
-  | true ↦ λ is. armed refl (same_equal (spans old) (spans new) is)
+  | true ↦ λ is. armed refl ((spans_decide (spans old) (spans new)).0 is)
   | false ↦ λ isnt. voided refl
 ] refl
 by_phase_after P Void old new allows armed voided void idle due = void refl

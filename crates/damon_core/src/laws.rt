@@ -2,18 +2,15 @@
 ghost use Rattle.std.specs.Prelude.{◌≡◌, ℕ, true, false, List, length};
 ghost use Rattle.damon_types.specs.declared.scheme.Version.TheVariants as version;
 ghost use Rattle.live_commit.specs.declared.phase.Phase.TheVariants as Phase;
-ghost use Rattle.live_commit.specs.Setup.{SetupValue};
-ghost use Rattle.damon_core.specs.Aggregate.{IsServedAlike, aggregated};
+ghost use Rattle.damon_core.specs.Aggregate.{IsServedAlike};
 ghost use Rattle.damon_core.specs.After.{after};
 ghost use Rattle.damon_core.specs.Event.{Event, Fits, prepare};
-ghost use Rattle.damon_core.specs.Note.{word_of};
-ghost use Rattle.damon_core.specs.State.{State, opening, row_count};
+ghost use Rattle.damon_core.specs.State.{State, row_count};
 ghost use Rattle.damon_core.specs.Reached.{Reached, ReachedByHit};
 ghost use Rattle.damon_core.specs.Bound.{Bound};
 ghost use Rattle.damon_core.specs.Choosing.{ServesBest};
 ghost use Rattle.damon_core.specs.InPhase.{IsInPhase};
 ghost use Rattle.damon_core.specs.Pass.{IsInPass, PagesRiseFrom};
-ghost use Rattle.damon_core.specs.Reported.{IsReported, ReportsAllPages};
 ghost use Rattle.damon_core.specs.Steps.{EndsPass, TakesItsSteps, is_step};
 ghost use Rattle.damon_core.specs.VersionOne.{AreOfVersionOne};
 
@@ -48,22 +45,6 @@ pub fn a_pass_takes_its_steps_amid_events()
 {
     reached_states_are_bound();
 }
-
-/// In each state to which fitting events lead, the rows that the last aggregation reported tile ranges
-/// of the space, in order, none of their counts is above the most passes of an aggregation, and an
-/// aggregation has a pass. Directly after an aggregation they have all pages of the ranges.
-pub fn reported_rows_tile()
-    ensures tile { (s : State) → Reached s → IsReported s.core }
-    ensures all { ReportsAllPages }
-{}
-
-/// Neither an aggregation nor the slots that a setup sets touch or clear a page: the word of each page
-/// stays, and is 0 at the opening.
-pub fn pages_are_kept()
-    ensures aggregated { (s : State) (words : List ℕ) (page : ℕ)
-        → word_of (aggregated words s).notes page ≡ word_of s.notes page }
-    ensures opening { (v : SetupValue) (page : ℕ) → word_of (opening v).notes page ≡ 0 }
-{}
 
 /// In each state of version One to which fitting events lead, no cost was handed in, and no slot was ever
 /// set to a scheme whose quota has a time.

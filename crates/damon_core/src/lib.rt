@@ -25,9 +25,6 @@ mod start;
 mod totals;
 
 pub use changed::Changed;
-pub use laws::{
-    a_pass_takes_its_steps_amid_events, pages_are_kept, reached_states_are_bound,
-    reported_rows_tile, version_one_has_no_costs,
-};
+pub use laws::{a_pass_takes_its_steps_amid_events, reached_states_are_bound, version_one_has_no_costs};
 pub use monitor::Monitor;
 pub use report::Report;

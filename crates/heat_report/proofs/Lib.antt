@@ -1,13 +1,14 @@
-pub mod Pages
-pub mod Places
-pub mod Borders
-pub mod Starts
-pub mod Adding
-pub mod Walking
-pub mod Whole
-pub mod Tenths
-pub mod Ends
-pub mod Medians
-pub mod Tiled
-pub mod Texts
+mod Pages
+mod Places
+mod Borders
+mod Starts
+mod Adding
+mod Walking
+mod Whole
+mod Tenths
+mod Ends
+mod Medians
+mod Tiled
+mod Texts
+pub mod Lemmas
 mod Examples

@@ -17,6 +17,6 @@ mod text;
 
 pub use frequency::{freq, working_set};
 pub use heat::heat_row;
-pub use laws::{freqs_are_all_pages, heat_is_of_rows, spread_is_of_sizes, tiled_rows_lie_in};
+pub use laws::spread_is_of_sizes;
 pub use sizes::{Sizes, Spread};
 pub use text::{write_last, write_report};

@@ -1,5 +1,5 @@
 -- A text is its first piece, the byte that ends it, and the rest.
-use Rattle.std.proofs.Common.{◌≡◌, ◌≢◌, ℕ, ◌+◌, ◌<◌, Bool, true, false, cond, List, [], ◌∷◌, ◌++◌, ◌==◌, nat_lt, nat_eq, length, get_or, take, drop, suc, Option, Some, None, ◌↔◌, eq-eqb, add-one, refl, ap, subst, ◌∙◌, arith, All, length-append}
+use Rattle.std.proofs.Common.{◌≡◌, ◌≢◌, ℕ, ◌+◌, ◌<◌, Bool, true, false, cond, List, [], ◌∷◌, ◌++◌, ◌==◌, nat_lt, nat_eq, length, get_or, take, drop, suc, Option, Some, None, ◌↔◌, eq-eqb, refl, ap, subst, ◌∙◌, arith, All, length-append}
 use borrow.Author.Tests.{eqb-true, ne_eqb}
 use Rattle.std.proofs.Math.ListN.{get_or-append}
 use Rattle.std.proofs.lemmas.List.Elements.{All-from_get_or}
@@ -9,7 +9,7 @@ use Rattle.std.proofs.lemmas.Bool.Decides.{nat_tests, Decides-eqb}
 use Rattle.std.proofs.lemmas.List.{length-take, get_or-take}
 use Rattle.std.proofs.lemmas.List.Sums.{split_at_first, fails_before_first, passes_at_first, position_or_len_is}
 use Rattle.std.proofs.lemmas.Slice.Eq.{starts_is}
-use Rattle.std.proofs.Math.Seq.{get_or-append_seam, take-append_seam, drop-append_seam}
+use Rattle.std.proofs.Math.Seq.{get_or-append_seam, drop-append_seam}
 use Rattle.line_text.specs.Line.{split_at_byte, after_prefix}
 
 -- a prefix is stripped, and the other way round
@@ -73,14 +73,6 @@ place_behind byte piece rest none = position_or_len_is (λ c. c == byte) (piece 
     (omega (arith, length-append piece (byte ∷ rest)))
     (λ k low. let other = none k 0 low in ne_eqb _ byte (rw (get_or-append piece (byte ∷ rest) 0 k low) other))
     (λ _. eq-eqb _ byte (get_or-append_seam piece byte rest 0))
-
--- a piece without the byte, the byte and the rest are split at it
-pub split_at_byte-append : (byte : ℕ) (piece rest : List ℕ) → All (λ c. c ≢ byte) piece → split_at_byte byte (piece ++ byte ∷ rest) ≡ Some (piece, rest)
-split_at_byte-append byte piece rest none =
-    let at = place_behind byte piece rest none in
-    let longer = length-append piece (byte ∷ rest) in
-    let within : nat_lt (length piece) (length (piece ++ byte ∷ rest)) ≡ true = grind (arith, nat_tests) in
-    rw (at, within, take-append_seam piece (byte ∷ rest), add-one, drop_past piece rest byte)
 
 nowhere : (byte : ℕ) (bytes : List ℕ) → All (λ c. c ≢ byte) bytes → position_or_len (λ c. c == byte) bytes ≡ length bytes
 nowhere byte bytes all =

@@ -27,12 +27,7 @@ pub use address::{address_before, read_address};
 pub use append::{append_field, end_line, whole_or_nothing};
 pub use before::{address_field_before, field_before, text_before};
 pub use bytes::{COLON, COMMA, DASH, EQUALS, LF, SPACE};
-pub use laws::{
-    address_is_spelled, decimal_has_digits, decimal_is_read, front_is_stripped,
-    leading_numbers_are_read, leading_numbers_are_spelled, number_is_decimal, parts_are_pieces,
-    piece_is_taken, pieces_are_parts, spelled_address_has_digits, spelled_address_is_read,
-    stripped_front_was_first,
-};
+pub use laws::{address_is_spelled, decimal_is_read, number_is_decimal, spelled_address_is_read};
 pub use leading::{leading_address, leading_number};
 pub use line::{next_word, same_text, strip};
 pub use number::{number_before, read_number, read_number_8, read_number_32, write_number};

@@ -3,6 +3,5 @@ pub mod Setup
 pub mod Checked
 pub mod SetupView
 pub mod Commit
-pub mod Laws
 pub mod Accepts
 pub mod Accepted

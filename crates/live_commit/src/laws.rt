@@ -7,14 +7,7 @@ ghost use Rattle.live_commit.specs.declared.view.View.{View};
 ghost use Rattle.live_commit.specs.Accepted.{IsAccepted};
 ghost use Rattle.live_commit.specs.Accepts.{checked_commit};
 ghost use Rattle.live_commit.specs.Commit.{CommitValue};
-ghost use Rattle.live_commit.specs.Laws.{ChecksInTurn};
 ghost use Rattle.live_commit.specs.Setup.{SetupValue, IsSetup};
-
-/// Slot changes that are accepted, with one more: the longer list is accepted, or rejected for the
-/// first reason against that change.
-pub fn slots_are_checked_in_turn()
-    ensures next { ChecksInTurn }
-{}
 
 /// A commit that is accepted comes in a phase that allows it, and its attributes, its ranges, the
 /// number of ranges after it and the slot that it changes are within their limits. The slots that a

@@ -22,7 +22,7 @@ mod view;
 
 pub use commit::Commit;
 pub use fault::{CommitFault, SetupFault};
-pub use laws::{accepted_commits_are_within, slots_are_checked_in_turn};
+pub use laws::accepted_commits_are_within;
 pub use phase::Phase;
 pub use setup::{MAX_CAP, MAX_UNIT, MIN_CAP, Setup};
 pub use slots::is_set;

@@ -31,12 +31,6 @@ clear_passes_of-quiet p es e quiet = flat_map-append (clear_of p) es (e ∷ []) 
 pub last_clear_of-here : (p c : ℕ) (es : List Entry) → last_clear_of p (es ++ Clear p c ∷ []) ≡ c
 last_clear_of-here p c es = ap last_of (clear_passes_of-here p c es) ∙ last_of-push (clear_passes_of p es) c
 
--- a clear is the last one of its page where none stands behind it
-pub last_clear_of-behind : (p c : ℕ) (before after : List Entry) → clear_passes_of p after ≡ [] → last_clear_of p (before ++ Clear p c ∷ after) ≡ c
-last_clear_of-behind p c before after none =
-    ap last_of (flat_map-append (clear_of p) before (Clear p c ∷ after) ∙ ap (λ (b : Bool). clear_passes_of p before ++ (cond b (c ∷ []) [] ++ clear_passes_of p after)) (eq-eqb p p refl) ∙ ap (λ l. clear_passes_of p before ++ c ∷ l) none)
-    ∙ last_of-push (clear_passes_of p before) c
-
 pub last_clear_pass-push : (p c : ℕ) (es : List Entry) → last_clear_pass (es ++ Clear p c ∷ []) ≡ c
 last_clear_pass-push p c es = ap last_of (clear_passes-push p c es) ∙ last_of-push (clear_passes es) c
 

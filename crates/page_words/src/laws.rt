@@ -1,21 +1,12 @@
 // A law of the definitions that contracts cite. The function does nothing.
-ghost use Rattle.std.specs.Prelude.{◌≡◌, ℕ, ◌<◌, ◌≤◌, List, [], ◌∷◌, ◌++◌, replicate};
+ghost use Rattle.std.specs.Prelude.{ℕ, ◌<◌, ◌≤◌, [], replicate};
 ghost use Rattle.atomic_table.specs.Table.{Me, opening};
-ghost use Rattle.page_words.specs.declared.view.Entry.{Entry as entry};
-ghost use Rattle.page_words.specs.declared.view.Entry.TheVariants.{Clear};
 ghost use Rattle.page_words.specs.declared.view.View.{View as view};
 ghost use Rattle.page_words.specs.declared.view.View.TheVariants.{Monitor};
-ghost use Rattle.page_words.specs.Clears.{clear_passes_of, last_clear_of, last_clear_pass};
+ghost use Rattle.page_words.specs.Clears.{last_clear_pass};
 ghost use Rattle.page_words.specs.Keeping.{TouchKeeps, ClearKeeps, LoadKeeps, SplitKeeps, GatherKeeps};
 ghost use Rattle.page_words.specs.Rule.{WordRule};
 ghost use Rattle.page_words.specs.Seats.{IsTouchSeat, IsMonitorSeat, entries_of};
-
-/// A clear of a page is its last one where no later entry clears the page.
-pub fn clear_is_last()
-    ensures { (page pass : ℕ) (before after : List entry)
-        → clear_passes_of page after ≡ []
-        → last_clear_of page (before ++ Clear page pass ∷ after) ≡ pass }
-{}
 
 /// The rule of the page words holds of a new table, and each atomic step of a seat of its kind keeps it,
 /// whatever the words and the views of all other seats are: so it holds between any two steps.

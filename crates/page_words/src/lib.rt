@@ -35,7 +35,7 @@ mod view;
 /// The shared table of page words.
 mod words;
 
-pub use laws::{clear_is_last, steps_keep_the_rule};
+pub use laws::steps_keep_the_rule;
 pub use seats::{MonitorSeat, TouchSeat};
 pub use settled::Settled;
 pub use view::{Entry, Touch};

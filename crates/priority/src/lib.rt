@@ -20,8 +20,5 @@ mod threshold;
 pub use candidates::{Candidate, Candidates};
 pub use choice::Chosen;
 pub use histogram::Histogram;
-pub use laws::{
-    counts_keep_in_any_order, counts_keep_without_shareless, lowest_is_least, order_is_one,
-    shares_are_best, shares_are_within,
-};
+pub use laws::{lowest_is_least, order_is_one, shares_are_best};
 pub use scoring::{MAX_SCORE, Scorer, score};

@@ -1,5 +1,6 @@
-pub mod Placing
-pub mod Bounding
-pub mod Sharing
-pub mod Least
+mod Placing
+mod Bounding
+mod Sharing
+mod Least
+pub mod Lemmas
 mod Examples

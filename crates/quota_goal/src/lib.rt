@@ -3,8 +3,6 @@
 
 /// Goals, and lists of them.
 mod goals;
-/// Laws of the bytes that follow from a score.
-mod laws;
 /// Moments at which goals are scored.
 mod moment;
 /// The bytes that follow from a score.
@@ -15,7 +13,6 @@ mod seen;
 mod tuner;
 
 pub use goals::{Full, Goal, GoalKind, Goals, MAX_GOALS};
-pub use laws::{bytes_follow_the_score, next_bytes_are_bounded};
 pub use moment::Moment;
 pub use next::next_bytes;
 pub use seen::{Seen, seen_in};

@@ -11,5 +11,5 @@ mod pieces;
 /// The rows of all new ranges.
 mod ranges;
 
-pub use laws::{boundaries_follow_rule, pieces_follow_rule, updated_rows_are_kept};
+pub use laws::{boundaries_follow_rule, pieces_follow_rule};
 pub use ranges::update;

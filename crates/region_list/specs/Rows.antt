@@ -1,17 +1,11 @@
 -- Lists of rows, as contracts see them.
-use Rattle.std.specs.Prelude.{ℕ, ◌+◌, ◌-◌, ◌≤◌, ◌<◌, ◌^◌, List, ◌∷◌, ◌++◌, length, take, drop, slice_set, slice_index_or}
+use Rattle.std.specs.Prelude.{ℕ, ◌+◌, ◌-◌, List, ◌∷◌, ◌++◌, take, drop, slice_set, slice_index_or}
 use Rattle.damon_types.specs.declared.row.Row.{Row}
 
 -- rows, and the number for which there is room
 pub record RowList : Type 0 where
   pub rows : List Row
   pub cap : ℕ
-
--- the rows fit within the capacity, which is reserved
-pub record IsRoomFor (rows : List Row) (cap space : ℕ) : Type 0 where
-  pub room : length rows ≤ cap
-  pub small : cap < 2 ^ 32
-  pub reserved : cap ≤ space
 
 -- the row that stands for an index past the end
 abbrev pub no_row : Row

@@ -25,10 +25,7 @@ mod shrink;
 
 pub use division::divide;
 pub use join::join_rows;
-pub use laws::{
-    division_tiles, joined_rows_tile, refined_rows_tile, rows_follow_ranges, same_spans_are_equal,
-    shrunk_rows_are_kept, shrunk_rows_tile, tiled_rows_fit, tiling_is_per_page,
-};
+pub use laws::{shrunk_rows_tile, tiled_rows_fit, tiling_is_per_page};
 pub use pass::{RowPass, ValuePass};
 pub use regions::Regions;
 pub use row_buf::RowBuf;

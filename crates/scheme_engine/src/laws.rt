@@ -1,69 +1,17 @@
 // What holds of runs of schemes, for the crates above. No function here does anything.
-ghost use Rattle.std.specs.Prelude.{◌≡◌, ℕ, ◌+◌, ◌*◌, ◌^◌, ◌≤◌, ◌<◌, List, Option, length, sum_by, All, Any, IfSome};
+ghost use Rattle.std.specs.Prelude.{◌≡◌, ℕ, ◌+◌, ◌^◌, ◌≤◌, ◌<◌, List, Option, length, sum_by, All, IfSome};
 ghost use Rattle.std.specs.List.{AllByRecursion};
 ghost use Rattle.damon_types.specs.declared.scheme.Scheme.{Scheme as scheme_type};
 ghost use Rattle.damon_types.specs.declared.space.Target.{Target as target};
-ghost use Rattle.damon_types.specs.declared.space.TheConstants.{MAX_PAGES};
 ghost use Rattle.damon_types.specs.Space.{IsSpace};
-ghost use Rattle.damon_types.specs.Span.{spans};
 ghost use Rattle.damon_types.specs.Within.{AreWithin};
 ghost use Rattle.region_list.specs.Regions.{RegionList};
-ghost use Rattle.scheme_engine.specs.Best.{AreServedBest, IsBestRun};
+ghost use Rattle.scheme_engine.specs.Best.{IsBestRun};
 ghost use Rattle.scheme_engine.specs.Engine.{BeginBy, FitsSlot};
-ghost use Rattle.scheme_engine.specs.Kept.{AreTiled, CountsWithin, IsRunIn, LiesInRow, OneInPart, StartBy};
-ghost use Rattle.scheme_engine.specs.Outcome.{chosen_of, outcome_of};
+ghost use Rattle.scheme_engine.specs.Kept.{AreTiled, CountsWithin, IsRunIn, StartBy};
+ghost use Rattle.scheme_engine.specs.Outcome.{outcome_of};
 ghost use Rattle.scheme_engine.specs.Served.{slots_served};
 ghost use Rattle.scheme_engine.specs.Slots.{SlotValue};
-
-/// The rows after a run of a scheme still tile their ranges with the minimum size, and are at most
-/// `max`. At most one candidate is taken in part, so at most one row is cut, and before the cut there are
-/// as many rows as before the run. There is a row where there was one. Each has the count of the row that
-/// its pages belonged to, so no count rises.
-pub fn outcome_rows_are_kept()
-    ensures tiled { (slot aggr : ℕ) (space : List target) (scheme : scheme_type) (left : Option ℕ)
-        (regions : RegionList) → AreTiled regions
-        → AreTiled (record regions {
-          rows = (outcome_of slot space aggr scheme left regions).rows;
-        }) }
-    ensures one { (aggr : ℕ) (space : List target) (scheme : scheme_type) (left : Option ℕ)
-        (regions : RegionList) → AreTiled regions
-        → OneInPart (chosen_of space aggr scheme left regions) }
-    ensures some { (slot aggr : ℕ) (space : List target) (scheme : scheme_type) (left : Option ℕ)
-        (regions : RegionList) → 0 < length regions.rows
-        → 0 < length (outcome_of slot space aggr scheme left regions).rows }
-    ensures counts { (slot aggr most : ℕ) (space : List target) (scheme : scheme_type)
-        (left : Option ℕ) (regions : RegionList)
-        → AllByRecursion (λ r. r.count ≤ most) regions.rows
-        → AllByRecursion (λ r. r.count ≤ most)
-        (outcome_of slot space aggr scheme left regions).rows }
-{}
-
-/// The runs of a scheme have as many pages together as are taken, at most what is left of its quota.
-/// Each has a page and lies in a row, and so in the space where the ranges do. No more rows match and no
-/// more pages are taken than a space may have pages.
-pub fn outcome_runs_are_taken()
-    ensures sum { (slot aggr : ℕ) (space : List target) (scheme : scheme_type) (left : Option ℕ)
-        (regions : RegionList) → AreTiled regions
-        → sum_by (λ r. r.pages) (outcome_of slot space aggr scheme left regions).runs
-        ≡ (outcome_of slot space aggr scheme left regions).taken }
-    ensures within { (slot aggr : ℕ) (space : List target) (scheme : scheme_type) (left : Option ℕ)
-        (regions : RegionList) → AreTiled regions
-        → IfSome left (λ most. (outcome_of slot space aggr scheme left regions).taken ≤ most) }
-    ensures rows { (slot aggr : ℕ) (space : List target) (scheme : scheme_type) (left : Option ℕ)
-        (regions : RegionList) → AreTiled regions
-        → All (λ r. Any (LiesInRow r) (spans regions.rows))
-        (outcome_of slot space aggr scheme left regions).runs }
-    ensures space { (slot aggr : ℕ) (space : List target) (scheme : scheme_type) (left : Option ℕ)
-        (regions : RegionList) → AreTiled regions → AreWithin space regions.ranges
-        → All (IsRunIn space)
-        (outcome_of slot space aggr scheme left regions).runs }
-    ensures taken { (slot aggr : ℕ) (space : List target) (scheme : scheme_type) (left : Option ℕ)
-        (regions : RegionList) → AreTiled regions → AreWithin space regions.ranges → IsSpace space
-        → (outcome_of slot space aggr scheme left regions).taken ≤ MAX_PAGES }
-    ensures tried { (slot aggr : ℕ) (space : List target) (scheme : scheme_type) (left : Option ℕ)
-        (regions : RegionList) → AreTiled regions → AreWithin space regions.ranges → IsSpace space
-        → (outcome_of slot space aggr scheme left regions).tried ≤ MAX_PAGES }
-{}
 
 /// A run of a scheme is the best choice: its candidates are in priority order, each with its share of
 /// what is left of the quota; what it is applied to are the first passing pages of each, within what is
@@ -75,19 +23,11 @@ pub fn outcome_is_best()
         (outcome_of slot space aggr scheme left regions) }
 {}
 
-/// Each slot that is served is served best, over the rows as those before it leave them: nothing is done
-/// for one that is not set or not active, and the scheme of an active one is applied to the best choice
-/// within what is left of its quota.
-pub fn served_slots_are_best()
-    ensures best { (slot aggr tick : ℕ) (space : List target) (regions : RegionList)
-        (slots : List SlotValue) → AreTiled regions
-        → AreServedBest slot space aggr tick regions slots }
-{}
-
-/// What serving slots keeps: the rows and their counts as [`outcome_rows_are_kept`] says, the number of
-/// slots, and that no window begins after the tick. The runs of all slots have as many pages as are taken
-/// in all choices, and lie in the space; each choice takes at most what is left. Numbers that are bounded
-/// by how often the slots were served stay so, and fit in 64 bits.
+/// What serving slots keeps: the rows still tile their ranges with the minimum size, and are at most
+/// `max`; there is a row where there was one; and no count rises. The number of slots stays, and no window
+/// begins after the tick. The runs of all slots have as many pages as are taken in all choices, and lie in
+/// the space; each choice takes at most what is left. Numbers that are bounded by how often the slots were
+/// served stay so, and fit in 64 bits.
 pub fn served_slots_are_kept()
     ensures tiled { (slot aggr tick : ℕ) (space : List target) (regions : RegionList)
         (slots : List SlotValue) → AreTiled regions

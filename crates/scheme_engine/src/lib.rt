@@ -23,8 +23,5 @@ mod slot;
 
 pub use applied::{Applied, AppliedRun, RUNS_PER_ROW, SlotChoice};
 pub use engine::Engine;
-pub use laws::{
-    outcome_is_best, outcome_rows_are_kept, outcome_runs_are_taken, served_slots_are_best,
-    served_slots_are_kept,
-};
+pub use laws::{outcome_is_best, served_slots_are_kept};
 pub use slot::{SLOTS, SlotView};

@@ -15,7 +15,7 @@ mod row_runs;
 mod runs;
 
 pub use decision::passes;
-pub use laws::{longest_runs_are_one, passing_pages_are_counted};
+pub use laws::longest_runs_are_one;
 pub use range_runs::{RangeRuns, count_passing};
 pub use row_runs::passing;
 pub use runs::{MAX_RUNS, PassRuns, Run};

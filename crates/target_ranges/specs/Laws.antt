@@ -1,31 +1,12 @@
--- How the check of a list relates to that of longer lists, and to the ranges that are made.
-use Rattle.std.specs.Prelude.{◌≡◌, ℕ, ◌≤◌, List, [], ◌∷◌, ◌++◌, length, All, Ok, Err}
+-- How the check of a list relates to the ranges that are made.
+use Rattle.std.specs.Prelude.{◌≡◌, ℕ, ◌≤◌, List, length, All, Ok}
 use Rattle.damon_types.specs.declared.space.Target.{Target}
 use Rattle.damon_types.specs.declared.range.RangeSpec.{RangeSpec}
 use Rattle.damon_types.specs.Ranges.{InOrder}
 use Rattle.damon_types.specs.Space.{IsSpace}
 use Rattle.damon_types.specs.Within.{AreWithin}
-use Rattle.target_ranges.specs.declared.fault.RangeFault.{RangeFault}
-use Rattle.target_ranges.specs.Checked.{checked_next, checked_ranges, fault_at}
+use Rattle.target_ranges.specs.Checked.{checked_ranges}
 use Rattle.target_ranges.specs.Made.{ranges_of}
-
--- specs that are accepted, with one more: the longer list is rejected exactly for the first reason against that one
-abbrev pub ChecksOneMore : Type 0
-ChecksOneMore =
-    (ts : List Target) (unit cap : ℕ) (before : List RangeSpec) (s : RangeSpec)
-    → checked_ranges ts unit cap before ≡ Ok tt
-    → checked_ranges ts unit cap (before ++ s ∷ []) ≡ fault_at (length before) (checked_next ts unit cap before s)
-
--- a list that is rejected stays rejected for the same reason with more specs after it
-abbrev pub KeepsFault : Type 0
-KeepsFault =
-    (ts : List Target) (unit cap : ℕ) (specs more : List RangeSpec) (fault : RangeFault)
-    → checked_ranges ts unit cap specs ≡ Err fault → checked_ranges ts unit cap (specs ++ more) ≡ Err fault
-
--- specs that are accepted are at most `cap`
-abbrev pub HasRoom : Type 0
-HasRoom =
-    (ts : List Target) (unit cap : ℕ) (specs : List RangeSpec) → checked_ranges ts unit cap specs ≡ Ok tt → length specs ≤ cap
 
 -- specs that are accepted make ranges in order
 abbrev pub MakesInOrder : Type 0

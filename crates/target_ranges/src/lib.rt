@@ -14,4 +14,4 @@ mod laws;
 pub use check::{check_next, check_ranges};
 pub use fault::{RangeFault, RangeWhy};
 pub use fill::{fill_checked, fill_ranges};
-pub use laws::{accepted_has_room, fault_stays, made_in_order, next_decides};
+pub use laws::made_in_order;
