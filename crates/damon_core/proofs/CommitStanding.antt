@@ -1,6 +1,6 @@
 -- A monitor that stands for a state stands for the one after a commit.
 use Rattle.std.specs.Option.{option_map_or}
-use Rattle.std.proofs.Common.{◌≡◌, ℕ, ◌≤◌, ◌<◌, List, [], ◌∷◌, get_or, length, set as put, Option, Some, None, Ok, Err, refl, sym, ap, ◌∙◌}
+use Rattle.std.proofs.Common.{◌≡◌, ℕ, ◌≤◌, ◌<◌, List, ◌∷◌, get_or, length, set as put, Option, Some, None, Ok, Err, refl, sym, ap, ◌∙◌}
 use Rattle.std.specs.Prelude.{Result}
 use Rattle.damon_types.specs.declared.row.Row.{Row}
 use Rattle.damon_types.specs.declared.scheme.CostPart.{CostPart}
@@ -16,13 +16,10 @@ use Rattle.live_commit.proofs.Lemmas.{commit_accepted}
 use Rattle.damon_core.specs.Note.{Note, was_hit, set, dropped}
 use Rattle.damon_core.specs.Totals.{checks_made, hits_made}
 use Rattle.damon_core.specs.State.{Core, State}
-use Rattle.damon_core.specs.Commit.{check_of, committed, committed_core, committed_notes, committed_slots, core_after_commit, if_accepted, phase_after_commit, slots_after_commit, slots_changed, slots_costed, slots_metered, view_of}
-use Rattle.damon_core.specs.Event.{commit}
+use Rattle.damon_core.specs.Commit.{check_of, committed, committed_core, committed_notes, committed_slots, if_accepted, phase_after_commit, slots_changed, slots_costed, slots_metered, view_of}
 use Rattle.damon_core.specs.Slots.{slot_count, slots_of}
-use Rattle.damon_core.specs.Makes.{Makes}
 use Rattle.damon_core.specs.Stands.{MonitorView, Stands, last_pass}
 use Rattle.damon_core.proofs.Committing.{allows_commit, by_phase_after, committed_notes_hold}
-use Rattle.damon_core.proofs.Shown.{after_asked}
 use Rattle.damon_core.proofs.SlotNotes.{slot_counted_below, slots_of-cost, slots_of-dropped, slots_of-metric, slots_of-set}
 use Rattle.damon_core.proofs.Tallying.{was_hit-commit}
 use Rattle.damon_core.proofs.NoteParts.{with_cost, with_metric, with_slot}
@@ -91,9 +88,3 @@ stands_after (Err fault) m s c ok stands = record {
   hits = stands.hits;
   slots = stands.slots;
 }
-
--- a commit is an event, accepted or not
-pub commit_makes : (m : MonitorView) (c : CommitValue) → Makes Stands m (after_asked c m) (commit c ∷ [])
-commit_makes m c s reached stands =
-    let is : record m { core = core_after_commit c s.core; slots = slots_after_commit c s.core m.slots } ≡ after_asked c m = ap (λ (x : Core). record m { core = core_after_commit c x; slots = slots_after_commit c x m.slots }) (sym stands.same) in
-    ((tt, tt), rw (← is) (stands_after (check_of c s.core) m s c refl stands))

@@ -8,7 +8,6 @@ use Rattle.damon_types.specs.declared.space.Target.{Target}
 use Rattle.aggregator.specs.Cleared.{cleared}
 use Rattle.aggregator.specs.Threshold.{threshold}
 use Rattle.region_split.specs.Split.{split_rows}
-use Rattle.live_commit.specs.Commit.{CommitValue}
 use Rattle.live_commit.specs.declared.phase.Phase.{Phase}
 use Rattle.live_commit.specs.declared.phase.Phase.TheVariants.{Checking, Idle, Void}
 use Rattle.sampler.specs.Counted.{raised}
@@ -22,7 +21,6 @@ use Rattle.damon_core.specs.Report.{ReportValue}
 use Rattle.damon_core.specs.State.{row_count}
 use Rattle.damon_core.specs.Event.{load_index}
 use Rattle.damon_core.specs.Aggregate.{core_after_aggregation, engine_served, merged_regions}
-use Rattle.damon_core.specs.Commit.{committed_core, committed_slots, core_after_commit, slots_after_commit}
 use Rattle.damon_core.specs.After.{prepared_core, cleared_core, loaded_core, passed_core}
 use Rattle.damon_core.specs.Stands.{MonitorView}
 
@@ -93,14 +91,6 @@ after_observe m = ended m.core.phase m
 -- the aggregation that was due is carried out
 abbrev pub after_aggregate : List ℕ → MonitorView → MonitorView
 after_aggregate words m = record m { core = core_after_aggregation words m.slots m.core; slots = (engine_served m.core m.slots).slots }
-
--- a commit is made, or refused
-abbrev pub after_asked : CommitValue → MonitorView → MonitorView
-after_asked c m = record m { core = core_after_commit c m.core; slots = slots_after_commit c m.core m.slots }
-
--- a commit that is accepted is made
-abbrev pub after_accepted : CommitValue → MonitorView → MonitorView
-after_accepted c m = record m { core = committed_core c m.core; slots = committed_slots c m.slots }
 
 -- what is sampled once the slots are served, and once the counts are cleared and random words split the rows
 abbrev pub with_rows : List Row → SamplingView → SamplingView

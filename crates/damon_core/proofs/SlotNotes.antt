@@ -34,9 +34,6 @@ turned_if b tick notes j = record {
 pub turned-other : (i tick j : ℕ) (notes : List Note) → (i ≡ j → ⊥) → slot_of (turned i tick ∷ notes) j ≡ slot_of notes j
 turned-other i tick j notes apart = ap (λ b. turned_if b tick notes j) (differ i j apart)
 
-pub turned-same : (i tick : ℕ) (notes : List Note) → slot_of (turned i tick ∷ notes) i ≡ turned_if true tick notes i
-turned-same i tick notes = ap (λ b. turned_if b tick notes i) (same i)
-
 -- ---- a scheme is run
 
 abbrev ran_if : Bool → ℕ → List AppliedRun → Bool → List Note → ℕ → SlotValue

@@ -24,7 +24,7 @@ use Rattle.damon_core.specs.After.{after, prepared_core, passed_core, phase_clea
 use Rattle.damon_core.specs.Reached.{Reached}
 use Rattle.damon_core.specs.Makes.{Makes}
 use Rattle.damon_core.specs.Stands.{MonitorView, Stands, bit_at, last_pass}
-use Rattle.damon_core.specs.Kept.{loaded_so_far, HasPicks}
+use Rattle.damon_core.specs.Kept.{loaded_so_far}
 use Rattle.damon_core.proofs.RowFacts.{length-picks_of}
 use Rattle.damon_core.proofs.Served.{notes_hold}
 use Rattle.damon_core.proofs.Serving.{AreServed, slots_alike}
@@ -248,12 +248,3 @@ load_fits m s hit stands fits = subst (λ (c : Core). IsLoading c.phase (row_cou
 
 pub prepare_fits : (m : MonitorView) (s : State) (ws : List ℕ) → Stands m s → m.core.phase ≡ Idle → length ws ≡ row_count m.core → (s.core.phase ≡ Idle) × (length ws ≡ row_count s.core)
 prepare_fits m s ws stands idle len = (ap (λ (c : Core). c.phase) (sym stands.same) ∙ idle, len ∙ ap row_count stands.same)
-
--- a load has a pick
-pub load_has_pick : (ph : Phase) (rows n : ℕ) → HasPicks ph rows n → 0 < rows → IsLoading ph rows → load_index ph < n
-load_has_pick Armed rows n has some fits = omega arith
-load_has_pick (Checking k) rows n has some fits = omega arith
-load_has_pick (Clearing k) rows n has some fits = absurd fits
-load_has_pick Idle rows n has some fits = absurd fits
-load_has_pick Void rows n has some fits = absurd fits
-load_has_pick Due rows n has some fits = absurd fits

@@ -25,6 +25,8 @@ mod start;
 mod totals;
 
 pub use changed::Changed;
-pub use laws::{a_pass_takes_its_steps_amid_events, reached_states_are_bound, version_one_has_no_costs};
+pub use laws::{
+    a_pass_takes_its_steps_amid_events, reached_states_are_bound, version_one_has_no_costs,
+};
 pub use monitor::Monitor;
 pub use report::Report;

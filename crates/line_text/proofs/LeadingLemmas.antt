@@ -29,15 +29,6 @@ take_while-pass p i xs here pass =
     ∙ ap (λ b. cond b (get_or xs i 0 ∷ take_while p (drop (suc i) xs)) []) pass
     ∙ ap (λ n. get_or xs i 0 ∷ take_while p (drop n xs)) (sym (add-one i))
 
--- the next one fails
-pub take_while-fail : (p : ℕ → Bool) (i : ℕ) (xs : List ℕ) → i < length xs → p (get_or xs i 0) ≡ false → take_while p (drop i xs) ≡ []
-take_while-fail p i xs here fail =
-    ap (take_while p) (drop-cons xs i 0 here) ∙ take_while-cons p (get_or xs i 0) (drop (suc i) xs) ∙ ap (λ b. cond b (get_or xs i 0 ∷ take_while p (drop (suc i) xs)) []) fail
-
--- there is no next one
-pub take_while-end : (p : ℕ → Bool) (i : ℕ) (xs : List ℕ) → length xs ≤ i → take_while p (drop i xs) ≡ []
-take_while-end p i xs end = ap (take_while p) (drop_all i xs end)
-
 -- they are the first of the list, as many as they are
 pub take_while-take : (p : ℕ → Bool) (xs : List ℕ) → take (length (take_while p xs)) xs ≡ take_while p xs
 take_while-take p [] = refl

@@ -1,7 +1,6 @@
 -- A text is its first piece, the byte that ends it, and the rest.
-use Rattle.std.proofs.Common.{◌≡◌, ◌≢◌, ℕ, ◌+◌, ◌<◌, Bool, true, false, cond, List, [], ◌∷◌, ◌++◌, ◌==◌, nat_lt, nat_eq, length, get_or, take, drop, suc, Option, Some, None, ◌↔◌, eq-eqb, refl, ap, subst, ◌∙◌, arith, All, length-append}
+use Rattle.std.proofs.Common.{◌≡◌, ◌≢◌, ℕ, ◌+◌, ◌<◌, Bool, true, false, cond, List, [], ◌∷◌, ◌++◌, ◌==◌, nat_lt, nat_eq, length, get_or, take, drop, suc, Option, Some, None, ◌↔◌, refl, ap, subst, ◌∙◌, arith, All}
 use borrow.Author.Tests.{eqb-true, ne_eqb}
-use Rattle.std.proofs.Math.ListN.{get_or-append}
 use Rattle.std.proofs.lemmas.List.Elements.{All-from_get_or}
 use Rattle.std.specs.Option.{option_map}
 use Rattle.std.specs.List.{position_or_len, starts_with}
@@ -9,7 +8,7 @@ use Rattle.std.proofs.lemmas.Bool.Decides.{nat_tests, Decides-eqb}
 use Rattle.std.proofs.lemmas.List.{length-take, get_or-take}
 use Rattle.std.proofs.lemmas.List.Sums.{split_at_first, fails_before_first, passes_at_first, position_or_len_is}
 use Rattle.std.proofs.lemmas.Slice.Eq.{starts_is}
-use Rattle.std.proofs.Math.Seq.{get_or-append_seam, drop-append_seam}
+use Rattle.std.proofs.Math.Seq.{drop-append_seam}
 use Rattle.line_text.specs.Line.{split_at_byte, after_prefix}
 
 -- a prefix is stripped, and the other way round
@@ -67,12 +66,6 @@ split_at_byte-Some byte bytes piece rest e = by (nat_lt (position_or_len (λ c. 
 drop_past : (xs ys : List ℕ) (y : ℕ) → drop (suc (length xs)) (xs ++ y ∷ ys) ≡ ys
 drop_past [] ys y = refl
 drop_past (x ∷ xs) ys y = drop_past xs ys y
-
-place_behind : (byte : ℕ) (piece rest : List ℕ) → All (λ c. c ≢ byte) piece → position_or_len (λ c. c == byte) (piece ++ byte ∷ rest) ≡ length piece
-place_behind byte piece rest none = position_or_len_is (λ c. c == byte) (piece ++ byte ∷ rest) (length piece) 0
-    (omega (arith, length-append piece (byte ∷ rest)))
-    (λ k low. let other = none k 0 low in ne_eqb _ byte (rw (get_or-append piece (byte ∷ rest) 0 k low) other))
-    (λ _. eq-eqb _ byte (get_or-append_seam piece byte rest 0))
 
 nowhere : (byte : ℕ) (bytes : List ℕ) → All (λ c. c ≢ byte) bytes → position_or_len (λ c. c == byte) bytes ≡ length bytes
 nowhere byte bytes all =

@@ -164,7 +164,3 @@ nothing_left cs distinct =
       list = sym (ap (filter has_share) (shares_of_order (Some 0) cs distinct) ∙ none_pass has_share (map f (in_order cs)) none);
       taken = omega (arith, taken_is 0 cs distinct);
     }
-
--- the same choice where nothing is dropped
-pub nothing_dropped : (left : Option ℕ) (cs : List Candidate) → SameChoice left cs cs
-nothing_dropped left cs = record { list = refl; taken = refl }

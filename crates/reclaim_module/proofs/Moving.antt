@@ -1,6 +1,6 @@
 -- Runs of pages that go out and come back.
-use Rattle.std.proofs.Common.{◌≡◌, inl, inr, ℕ, zero, suc, ◌+◌, ◌/◌, ◌%◌, ◌≤◌, ◌<◌, Bool, true, false, cond, not, ◌&&◌, List, [], ◌∷◌, map, length, set, replicate, length-set, get_or-set_same, get_or-set_other, refl, sym, ap, subst, ◌∙◌, arith}
-use Rattle.std.specs.Prelude.{◌==◌, count_by, slice_index, slice_set, if◌then◌else◌}
+use Rattle.std.proofs.Common.{◌≡◌, inl, inr, ℕ, zero, suc, ◌+◌, ◌≤◌, ◌<◌, Bool, true, false, cond, not, ◌&&◌, List, [], ◌∷◌, map, length, set, length-set, get_or-set_same, get_or-set_other, refl, sym, ap, subst, ◌∙◌, arith}
+use Rattle.std.specs.Prelude.{◌==◌, count_by, slice_set, if◌then◌else◌}
 use Rattle.std.specs.List.{range_with_len}
 use Rattle.std.proofs.lemmas.Bool.{cases_eq}
 use Rattle.std.proofs.lemmas.Bool.Decides.{nat_tests}
@@ -8,7 +8,7 @@ use Rattle.std.proofs.lemmas.List.FromFn.{fill_by_all}
 use Rattle.std.proofs.lemmas.List.Sums.{sum_by-cons, sum_by-set}
 use Rattle.page_bits.specs.Runs.{count_pages, in_run}
 use Rattle.page_bits.specs.Sets.{each_page, with_run}
-use Rattle.page_bits.proofs.Lemmas.{before_run, behind_run, count_adds, count_more, count_none, count_same}
+use Rattle.page_bits.proofs.Lemmas.{before_run, behind_run, count_adds, count_more, count_none}
 use Rattle.reclaim_module.specs.Pages.{is_out_in, out_count}
 use Rattle.reclaim_module.proofs.Counting.{at_page, length_pages}
 
@@ -54,9 +54,6 @@ count_le (suc n) f = omega (arith, count_more n f, count_le n f, at_most_one (f 
   at_most_one : (b : Bool) → cond {A = ℕ} b 1 0 ≤ 1
   at_most_one true = omega arith
   at_most_one false = omega arith
-
-pub out_count_le : (xs : List Bool) → out_count xs ≤ length xs
-out_count_le xs = omega (arith, out_count_again xs, count_le (length xs) (is_out_in xs))
 
 -- the length stays
 pub length_with_run : (start pages : ℕ) (now : Bool) (xs : List Bool) → length (with_run start pages now xs) ≡ length xs
@@ -143,9 +140,3 @@ pub touch_loss : (page : ℕ) (xs : List Bool) → page < length xs → out_coun
 touch_loss page xs here =
     let sum = sum_by-set (λ (b : Bool). cond b 1 0) xs page false false here in
     omega (arith, sum)
-
--- a page that is resident stays so when it is touched
-pub resident_stays : (page : ℕ) (xs : List Bool) → is_out_in xs page ≡ false → slice_set xs page false ≡ xs
-resident_stays page [] is = refl
-resident_stays zero (x ∷ xs) is = ap (λ b. b ∷ xs) (sym is)
-resident_stays (suc page) (x ∷ xs) is = ap (λ ys. x ∷ ys) (resident_stays page xs is)

@@ -1,6 +1,6 @@
 -- What one note more makes of the pages that are out, and of the numbers.
 use Rattle.std.proofs.Common.{◌≡◌, ◌≢◌, inl, inr, ℕ, zero, suc, ◌+◌, ◌<◌, Bool, true, false, cond, not, ◌&&◌, ◌||◌, List, [], ◌∷◌, ◌++◌, length, set, length-set, get_or-set_same, get_or-set_other, replicate, refl, sym, ap, subst, ◌∙◌, arith}
-use Rattle.std.specs.Prelude.{◌==◌, Some, None, if◌then◌else◌}
+use Rattle.std.specs.Prelude.{◌==◌, Some, if◌then◌else◌}
 use Rattle.std.specs.List.{AllByRecursion}
 use Rattle.std.proofs.lemmas.Bool.{cases_eq}
 use Rattle.std.proofs.lemmas.Bool.Decides.{nat_tests}
@@ -305,11 +305,6 @@ stands_runs slot tick tried done (run ∷ runs) exceeds notes r scheme held s =
 pub stands_ran : (slot tick tried : ℕ) (runs : List AppliedRun) (exceeds : Bool) (scheme : Scheme) (r : ReclaimView) (notes : List Note) → scheme_of notes slot ≡ Some scheme → ReclaimStands r notes → ReclaimStands (after_runs scheme.action runs r) (ran slot tick tried runs exceeds ∷ notes)
 stands_ran slot tick tried runs exceeds scheme r notes held s =
     stands_runs slot tick tried [] runs exceeds notes r scheme held (stands_still (ran slot tick tried [] exceeds) r notes (still_without_runs slot tick tried exceeds notes) s)
-
--- a run of a slot that holds no scheme
-pub stands_unset : (slot tick tried : ℕ) (runs : List AppliedRun) (exceeds : Bool) (r : ReclaimView) (notes : List Note) → scheme_of notes slot ≡ None → ReclaimStands r notes → ReclaimStands r (ran slot tick tried runs exceeds ∷ notes)
-stands_unset slot tick tried runs exceeds r notes none s =
-    stands_still (ran slot tick tried runs exceeds) r notes (still_ran slot tick tried runs exceeds notes (ap holds_pageout none) (ap holds_willneed none)) s
 
 -- the number of pages stays
 pub length_after_action : (action : Action) (start pages : ℕ) (r : ReclaimView) → length (after_action action start pages r).out ≡ length r.out

@@ -7,5 +7,7 @@ mod laws;
 /// The pages that are out, and what is counted.
 mod reclaim;
 
-pub use laws::{model_counts_pages, pages_are_out_since_their_last, slots_page_out_what_is_resident};
+pub use laws::{
+    model_counts_pages, pages_are_out_since_their_last, slots_page_out_what_is_resident,
+};
 pub use reclaim::{Counts, Reclaim};

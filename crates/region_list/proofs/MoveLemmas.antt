@@ -250,18 +250,6 @@ more_after gs level to rows top kept index chain k end ordered here s over =
     let back = drop (index + 1) rows in
     (at_over gs (top ∷ b ∷ back) k 0 end top b back ordered refl (subst (λ rs. BeginsIn gs (top ∷ rs) k end) (drop_first rows index here) s.here) over).0
 
--- the rows are the same
-pub on_same : (rows : List Row) (top : Row) (kept index : ℕ) → kept < index → index < length rows → take (kept + 1) (set rows kept top) ++ row_at (set rows kept top) index ∷ drop (index + 1) (set rows kept top) ≡ take kept rows ++ top ∷ drop index rows
-on_same rows top kept index ahead here =
-    ap (λ rs. rs ++ row_at (set rows kept top) index ∷ drop (index + 1) (set rows kept top)) (written_front rows kept top (omega arith))
-    ∙ ap (λ r. (take kept rows ++ top ∷ []) ++ r ∷ drop (index + 1) (set rows kept top)) (written_next rows kept index top ahead)
-    ∙ ap (λ rs. (take kept rows ++ top ∷ []) ++ row_at rows index ∷ rs) (written_back rows kept index top ahead)
-    ∙ append_assoc (take kept rows) (top ∷ []) (row_at rows index ∷ drop (index + 1) rows)
-    ∙ ap (λ rs. take kept rows ++ top ∷ rs) (sym (drop_first rows index here))
-
-pub on_tiles : (gs : List Range) (rows : List Row) (top : Row) (kept index : ℕ) → kept < index → index < length rows → (unit : ℕ) → Tiling unit gs (spans (take kept rows ++ top ∷ drop index rows)) → Tiling unit gs (spans (take (kept + 1) (set rows kept top) ++ row_at (set rows kept top) index ∷ drop (index + 1) (set rows kept top)))
-on_tiles gs rows top kept index ahead here unit before = subst (λ rs. Tiling unit gs (spans rs)) (sym (on_same rows top kept index ahead here)) before
-
 -- the first row is the top, and no row is finished
 pub sweep_begin : (gs : List Range) (level to : ℕ) (rows : List Row) (end : ℕ) → InOrder gs → Tiling 1 gs (spans rows) → 0 < length rows → option_map end_of (slice_get gs 0) ≡ Some end → DifferBy gs level rows → IsSweep gs level to [] (row_at rows 0) (drop 1 rows) 0 0 end
 sweep_begin gs level to [] end ordered tiling some end_is differ = absurd (omega arith)

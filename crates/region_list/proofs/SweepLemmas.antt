@@ -323,10 +323,6 @@ closest_differ gs rows ordered tiling more =
 pub level_rises : (gs : List Range) (below : ℕ) (rows : List Row) → InOrder gs → Tiling 1 gs (spans rows) → length gs < length rows → DifferBy gs below rows → below ≤ least (differences gs rows)
 level_rises gs below rows ordered tiling more differ = differ_pair gs below rows (closest gs rows) (least (differences gs rows)) differ (closest_found gs rows ordered tiling more)
 
--- few enough rows are shrunk already
-pub shrunk_few : (gs : List Range) (to : ℕ) (rows : List Row) → length rows ≤ to → shrunk gs to rows ≡ rows
-shrunk_few gs to rows few = let none : length rows - to ≡ 0 = omega arith in ap (λ n. joined_times gs n rows) none
-
 -- how many levels may come, none where there are few enough rows
 abbrev pub levels_left : List Range → ℕ → List Row → ℕ
 levels_left gs to rows = if nat_lt to (length rows) then 2 ^ 32 - least (differences gs rows) + 1 else 0

@@ -41,14 +41,6 @@ begins_group gs a b rows k end k' end' order here same next = by (row_end a == e
         let on = eqb-false _ _ is in
         rw ((same on).0, (same on).1) ((begins_same gs a b rows k end order here on).1)
 
--- the next row is joined
-pub merged_joined : (gs : List Range) (threshold limit : ℕ) (a : Row) (rows : List Row) (i : ℕ) → i < length rows → may_join gs threshold limit a (row_at rows i) ≡ true → merged_from gs threshold limit a (drop i rows) ≡ merged_from gs threshold limit (join a (row_at rows i)) (drop (i + 1) rows)
-merged_joined gs threshold limit a rows i within may = rw (drop_next rows i within, may) refl
-
--- the next row begins a group
-pub merged_next : (gs : List Range) (threshold limit : ℕ) (a : Row) (rows : List Row) (i : ℕ) → i < length rows → may_join gs threshold limit a (row_at rows i) ≡ false → merged_from gs threshold limit a (drop i rows) ≡ a ∷ merged_from gs threshold limit (row_at rows i) (drop (i + 1) rows)
-merged_next gs threshold limit a rows i within may = rw (drop_next rows i within, may) refl
-
 -- where the ends differ, as a row that is joined shows
 pub ends_differ : (u v : ℕ) (p : Bool) → (not (u == v) && p) ≡ true → u ≡ v → ⊥
 ends_differ u v p is same = absurd (grind (arith, nat_tests))

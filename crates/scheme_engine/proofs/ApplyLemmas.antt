@@ -56,12 +56,6 @@ is_found passes rows c ascend is none =
     let e : None ≡ Some is.index = sym none ∙ row_by_start rows is.index is.span c.start ascend is.at is.start in
     absurd (cc e)
 
--- the runs that the code pushes are those of the candidate
-pub runs_are : (slot : ℕ) (passes : ℕ → Bool) (rows : List Row) (c : Candidate) (index : ℕ) (row : Row) → Found passes rows c index row → map (applied_run slot c) (first_pages c.share (runs_of passes row.start row.pages)) ≡ candidate_runs slot passes (spans rows) c
-runs_are slot passes rows c index row found =
-    ap (map (applied_run slot c)) (sym (taken_are_first passes c.share row.start row.pages))
-    ∙ ap (λ s. map (applied_run slot c) (taken_runs passes c.share s)) (sym found.span)
-
 pub no_share : (slot : ℕ) (passes : ℕ → Bool) (ss : List Span) (c : Candidate) → c.share ≡ 0 → candidate_runs slot passes ss c ≡ []
 no_share slot passes ss c none = ap (λ n. map (applied_run slot c) (taken_runs passes n (span_at ss c))) none ∙ ap (map (applied_run slot c)) (taken_are_first passes 0 (span_at ss c).start (span_at ss c).pages ∙ first_zero (runs_of passes (span_at ss c).start (span_at ss c).pages))
   where
@@ -196,17 +190,6 @@ no_part_0 action passes ss c none = no_part action passes ss c (by (changes_rows
     by : (v : Bool) → (v && (nat_lt 0 c.share && nat_lt c.share c.passing)) ≡ false
     by true = rw not refl
     by false = refl
-
-pub no_part_all : (action : Action) (passes : ℕ → Bool) (ss : List Span) (c : Candidate) → c.passing ≤ c.share → part_of action passes ss c ≡ None
-no_part_all action passes ss c whole = no_part action passes ss c (by (changes_rows action) (nat_lt 0 c.share))
-  where
-    not : nat_lt c.share c.passing ≡ false
-    not = grind (arith, nat_tests)
-
-    by : (v w : Bool) → (v && (w && nat_lt c.share c.passing)) ≡ false
-    by true true = not
-    by true false = refl
-    by false w = refl
 
 -- the candidate that stands for an index past the end
 abbrev pub no_candidate : Candidate

@@ -33,9 +33,6 @@ pub record IsServing (space : List Target) (aggr tick : ℕ) (old : RegionList) 
   pub all_runs : runs ++ (slots_served n space aggr tick regions (drop n start)).runs ≡ (slots_served 0 space aggr tick old start).runs
   pub all_choices : choices ++ (slots_served n space aggr tick regions (drop n start)).choices ≡ (slots_served 0 space aggr tick old start).choices
 
-pub serving_none : (space : List Target) (aggr tick : ℕ) (old : RegionList) (start : List SlotValue) → IsServing space aggr tick old start 0 start old [] []
-serving_none space aggr tick old start = record { size = refl; rest = refl; kept = refl; all_slots = refl; all_rows = refl; all_runs = refl; all_choices = refl }
-
 -- the slot that is served next was not changed
 pub same_slot : {space : List Target} {aggr tick : ℕ} {old : RegionList} {start : List SlotValue} {n : ℕ} {slots : List SlotValue} {regions : RegionList} {runs : List AppliedRun} {choices : List SlotChoice} → IsServing space aggr tick old start n slots regions runs choices → slot_at slots n ≡ slot_at start n
 same_slot {start = start} {n = n} {slots = slots} is = by (ap (λ (ss : List SlotValue). slot_at ss 0) is.rest)
@@ -44,32 +41,6 @@ same_slot {start = start} {n = n} {slots = slots} is = by (ap (λ (ss : List Slo
     by same =
         let here : n + 0 ≡ n = omega arith in
         ap (slot_at slots) (sym here) ∙ sym (get_or-drop n slots 0 empty_slot) ∙ same ∙ get_or-drop n start 0 empty_slot ∙ ap (slot_at start) here
-
-pub serving_more : {space : List Target} {aggr tick : ℕ} {old : RegionList} {start : List SlotValue} {n : ℕ} {slots : List SlotValue} {regions : RegionList} {runs : List AppliedRun} {choices : List SlotChoice} → IsServing space aggr tick old start n slots regions runs choices → n < length slots → (first : ServedSlot) → first ≡ slot_served n space aggr tick regions (slot_at slots n) → IsServing space aggr tick old start (n + 1) (set slots n first.slot) (record regions { rows = first.rows }) (runs ++ first.runs) (choices ++ first.choices)
-serving_more {space} {aggr} {tick} {old} {start} {n} {slots} {regions} {runs} {choices} is within first first_is =
-    record {
-      size = length-set slots n first.slot ∙ is.size;
-      rest = drop-set-lt (n + 1) slots n first.slot (omega arith) ∙ next_rest;
-      kept = ap (λ (r : RegionList). record r { rows = first.rows }) is.kept;
-      all_slots = ap (λ ss. ss ++ others.slots) (take_more_set slots n first.slot within) ∙ append_assoc (take n slots) (first.slot ∷ []) others.slots ∙ ap (λ (w : Served). take n slots ++ w.slots) (sym step) ∙ is.all_slots;
-      all_rows = ap (λ (w : Served). w.rows) (sym step) ∙ is.all_rows;
-      all_runs = append_assoc runs first.runs others.runs ∙ ap (λ (w : Served). runs ++ w.runs) (sym step) ∙ is.all_runs;
-      all_choices = append_assoc choices first.choices others.choices ∙ ap (λ (w : Served). choices ++ w.choices) (sym step) ∙ is.all_choices;
-    }
-  where
-    others : Served
-    others = slots_served (n + 1) space aggr tick (record regions { rows = first.rows }) (drop (n + 1) start)
-
-    here : n < length start
-    here = omega (arith, within, is.size)
-
-    step : slots_served n space aggr tick regions (drop n start) ≡ joined first others
-    step =
-        next_served space aggr tick n regions start here
-        ∙ ap (λ (w : ServedSlot). joined w (slots_served (n + 1) space aggr tick (record regions { rows = w.rows }) (drop (n + 1) start))) (ap (slot_served n space aggr tick regions) (sym (same_slot is)) ∙ sym first_is)
-
-    next_rest : drop (n + 1) slots ≡ drop (n + 1) start
-    next_rest = sym (drop-drop 1 n slots) ∙ ap (drop 1) is.rest ∙ drop-drop 1 n start
 
 -- what holds of all items holds of the last ones
 All-rest_of : (xs ys : List SlotValue) → All FitsSlot (xs ++ ys) → All FitsSlot ys
@@ -92,14 +63,3 @@ serving_fits {space} {aggr} {tick} {old} {start} {n} {slots} {regions} {runs} {c
 
     listed : take n slots ++ first ∷ others ≡ (slots_served 0 space aggr tick old start).slots
     listed = ap (λ (s : SlotValue). take n slots ++ (slot_served n space aggr tick regions s).slot ∷ others) (same_slot is) ∙ ap (λ (w : Served). take n slots ++ w.slots) (sym (next_served space aggr tick n regions start here)) ∙ is.all_slots
-
-pub serving_all : {space : List Target} {aggr tick : ℕ} {old : RegionList} {start : List SlotValue} {n : ℕ} {slots : List SlotValue} {regions : RegionList} {runs : List AppliedRun} {choices : List SlotChoice} → IsServing space aggr tick old start n slots regions runs choices → length slots ≤ n → (slots ≡ (slots_served 0 space aggr tick old start).slots) × (regions ≡ record old { rows = (slots_served 0 space aggr tick old start).rows }) × (runs ≡ (slots_served 0 space aggr tick old start).runs) × (choices ≡ (slots_served 0 space aggr tick old start).choices)
-serving_all {space} {aggr} {tick} {old} {start} {n} {slots} {regions} {runs} {choices} is all = (
-  sym (append-nil slots) ∙ ap (λ ss. ss ++ []) (sym (take_all n slots all)) ∙ ap (λ (w : Served). take n slots ++ w.slots) (sym none) ∙ is.all_slots,
-  is.kept ∙ ap (λ rs. record old { rows = rs }) (ap (λ (w : Served). w.rows) (sym none) ∙ is.all_rows),
-  sym (append-nil runs) ∙ ap (λ (w : Served). runs ++ w.runs) (sym none) ∙ is.all_runs,
-  sym (append-nil choices) ∙ ap (λ (w : Served). choices ++ w.choices) (sym none) ∙ is.all_choices,
-)
-  where
-    none : slots_served n space aggr tick regions (drop n start) ≡ record { slots = []; rows = regions.rows; runs = []; choices = [] }
-    none = ap (slots_served n space aggr tick regions) (drop_all n start (omega (arith, all, is.size)))

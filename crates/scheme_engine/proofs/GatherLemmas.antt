@@ -105,20 +105,8 @@ candidates_have_rows space ranges aggr scheme (r ∷ rows) =
     (All-weaker (HasRow passing rows) (HasRow passing (r ∷ rows)) (λ c has. record { index = suc has.index; row = has.row; at = has.at; is = has.is }) (candidates_of space ranges aggr scheme rows)
     (candidates_have_rows space ranges aggr scheme rows))
 
--- the row as a candidate, in the three cases of the code
-pub candidate_here : (space : List Target) (ranges : List Range) (aggr : ℕ) (scheme : Scheme) (r : Row) (n score : ℕ) → is_match scheme.pattern r ≡ true → n ≡ length (passing_pages (passes scheme.filters space ranges) (span_of r)) → 0 < n → score ≡ score_of r (page_total ranges) aggr scheme → candidate_of space ranges aggr scheme r ≡ Some (record { target = r.target; start = r.start; score = score; passing = n; share = 0 })
-candidate_here space ranges aggr scheme r n score match is some scored =
-    let kept : nat_lt 0 n ≡ true = grind (arith, nat_tests) in
-    let p : ℕ → ℕ → Option Candidate = λ m s. cond (is_match scheme.pattern r && nat_lt 0 m) (Some (record { target = r.target; start = r.start; score = s; passing = m; share = 0 })) None in
-    ap (λ m. p m (score_of r (page_total ranges) aggr scheme)) (sym is) ∙ ap (p n) (sym scored) ∙ rw (match, kept) refl
-
 pub no_match : (space : List Target) (ranges : List Range) (aggr : ℕ) (scheme : Scheme) (r : Row) → is_match scheme.pattern r ≡ false → candidate_of space ranges aggr scheme r ≡ None
 no_match space ranges aggr scheme r other = rw other refl
-
-pub none_passes : (space : List Target) (ranges : List Range) (aggr : ℕ) (scheme : Scheme) (r : Row) (n : ℕ) → is_match scheme.pattern r ≡ true → n ≡ length (passing_pages (passes scheme.filters space ranges) (span_of r)) → n ≤ 0 → candidate_of space ranges aggr scheme r ≡ None
-none_passes space ranges aggr scheme r n match is none =
-    let left : nat_lt 0 (length (passing_pages (passes scheme.filters space ranges) (span_of r))) ≡ false = grind (arith, nat_tests) in
-    rw (match, left) refl
 
 -- starts that rise from a page rise from any page before it
 rise_weaker : (q p : ℕ) (rows : List Row) → q ≤ p → RiseFrom p (spans rows) → RiseFrom q (spans rows)

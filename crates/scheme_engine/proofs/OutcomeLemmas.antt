@@ -38,9 +38,6 @@ outcome_tiled slot aggr space scheme left regions tiled = record {
   few = rows_few scheme.action (passes scheme.filters space regions.ranges) regions (chosen_of space aggr scheme left regions) (are_defined space aggr scheme left regions tiled).chosen tiled.few;
 }
 
-pub outcome_one : (aggr : ℕ) (space : List Target) (scheme : Scheme) (left : Option ℕ) (regions : RegionList) → AreTiled regions → OneInPart (chosen_of space aggr scheme left regions)
-outcome_one aggr space scheme left regions tiled = (are_defined space aggr scheme left regions tiled).chosen.one
-
 pub outcome_some : (slot aggr : ℕ) (space : List Target) (scheme : Scheme) (left : Option ℕ) (regions : RegionList) → 0 < length regions.rows → 0 < length (outcome_of slot space aggr scheme left regions).rows
 outcome_some slot aggr space scheme left regions some = rows_some_left scheme.action regions (passes scheme.filters space regions.ranges) (chosen_of space aggr scheme left regions) some
 

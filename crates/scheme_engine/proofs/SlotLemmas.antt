@@ -224,10 +224,6 @@ all_at P [] i all none = none
 all_at P (t ∷ slots) zero all none = all.0
 all_at P (t ∷ slots) (suc i) all none = all_at P slots i all.1 none
 
-pub start_changed : (tick i : ℕ) (scheme : Option Scheme) (slots : List SlotValue) → StartBy tick slots → StartBy tick (set slots i (changed scheme (get_or slots i empty_slot)))
-start_changed tick i scheme slots start =
-    all_set (λ s. s.window.start ≤ tick) slots i (changed scheme (get_or slots i empty_slot)) start (all_at (λ s. s.window.start ≤ tick) slots i start (omega arith))
-
 counts_empty : (n : ℕ) → CountsWithin n empty_slot
 counts_empty n = record { tried = tt; applied = tt; exceeds = tt; charged = omega arith; cost = omega arith }
 
@@ -238,12 +234,3 @@ counts_changed_slot n (Some x) s is = record { tried = omega arith; applied = om
 pub counts_changed : (n i : ℕ) (scheme : Option Scheme) (slots : List SlotValue) → AllByRecursion (CountsWithin n) slots → AllByRecursion (CountsWithin n) (set slots i (changed scheme (get_or slots i empty_slot)))
 counts_changed n i scheme slots all =
     all_set (CountsWithin n) slots i (changed scheme (get_or slots i empty_slot)) all (counts_changed_slot n scheme (get_or slots i empty_slot) (all_at (CountsWithin n) slots i all (counts_empty n)))
-
--- slots that were never set
-pub start_none : (k tick : ℕ) → StartBy tick (replicate k empty_slot)
-start_none zero tick = tt
-start_none (suc k) tick = (omega arith, start_none k tick)
-
-pub counts_none : (k n : ℕ) → AllByRecursion (CountsWithin n) (replicate k empty_slot)
-counts_none zero n = tt
-counts_none (suc k) n = (counts_empty n, counts_none k n)

@@ -79,7 +79,7 @@ impl RangeRuns {
         self.first.from <= start && end <= self.first.to
     }
 
-    // Whether there are no runs, and the pages from `start` to before `end` lie where there are none.
+    // Whether no page from `start` to before `end` passes.
     fn has_none(&self, start: u32, end: u32) -> bool
         ensures none { result ≡ true → length self.now.runs ≡ 0 }
         ensures from { result ≡ true → self.now.from ≤ start }
