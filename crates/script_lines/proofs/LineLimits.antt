@@ -1,5 +1,5 @@
 -- What is within its limits once a line was read.
-use Rattle.std.proofs.Common.{◌≡◌, ◌∷◌, [], ◌&&◌, ◌-◌, ◌^◌, ◌<◌, ℕ, Bool, true, false, not, nat_le, nat_lt, List, ◌++◌, length, codes, Some, Ok, Err, refl, subst, arith}
+use Rattle.std.proofs.Common.{◌≡◌, ◌∷◌, [], ◌&&◌, ◌-◌, ◌^◌, ◌<◌, ◌≤◌, ℕ, Bool, true, false, not, nat_le, nat_lt, List, ◌++◌, length, codes, Some, Ok, Err, refl, subst, arith}
 use Rattle.std.proofs.lemmas.Bool.Decides.{nat_tests}
 use Rattle.std.specs.Prelude.{if◌then◌else◌, Result, is_ok}
 use Rattle.damon_types.specs.declared.attrs.Attrs.{Attrs}
