@@ -14,7 +14,7 @@ use Rattle.live_commit.specs.declared.fault.CommitFault.{CommitFault}
 use Rattle.live_commit.specs.Accepted.{AllowsCommit}
 use Rattle.live_commit.specs.Commit.{CommitValue}
 use Rattle.damon_core.specs.After.{after}
-use Rattle.damon_core.specs.Commit.{check_of}
+use Rattle.damon_core.specs.Commit.{check_of, view_of}
 use Rattle.damon_core.specs.Event.{Event, touch, prepare, clear, load, observe, aggregate, commit, show}
 use Rattle.damon_core.specs.Reached.{run}
 use Rattle.damon_core.specs.Slots.{scheme_of, slot_count}
@@ -23,14 +23,16 @@ use Rattle.damon_core.proofs.Lemmas.{IsNoCommit}
 use Rattle.quota_goal.specs.declared.goals.Goal.{Goal}
 use Rattle.quota_goal.specs.declared.moment.Moment.{Moment}
 use Rattle.quota_goal.specs.Tuned.{TunerView, after_change, change_at, given, least_of, nexts, other_than, scheme_at, top_after, top_at, tunable_bytes, with_bytes}
+use Rattle.live_commit.proofs.Lemmas.{commit_accepted}
+use Rattle.tune_run.proofs.Slots.{counted_below}
 use Rattle.tune_run.specs.Along.{AreBelowTops}
 use Rattle.tune_run.specs.Callbacks.{change_alone, changes_at, commits_of, schemes_in, tuner_in}
 use Rattle.tune_run.specs.Tops.{tops_after, tops_kept}
 use Rattle.tune_run.proofs.Accepting.{TakesChanges, event_takes}
 use Rattle.tune_run.proofs.Bytes.{bytes_are}
 use Rattle.tune_run.proofs.Changes.{later_stay, next_is, retuned_is, slot_is}
-use Rattle.tune_run.proofs.Committing.{accepted_stands, next_stands, refused_stands}
-use Rattle.tune_run.proofs.Least.{Bounds, least_below}
+use Rattle.tune_run.proofs.Committing.{accepted_stands, if_some_of, next_stands, refused_stands}
+use Rattle.tune_run.proofs.Least.{least_below}
 use Rattle.tune_run.proofs.Staying.{schemes_stay}
 
 -- ---- changes of the script
@@ -75,15 +77,15 @@ other_is bytes new (Some n) top most is =
       | false ↦ λ some. let same : n ≡ new = cc some in subst (λ k. k ≤ top) same most
     ]) is
 
-change_below : (laws : Bounds) (t : TunerView) (c : SlotChange) (moment : Moment) → c.slot < length t.schemes → change_at t c.slot moment ≡ Some c
+change_below : (t : TunerView) (c : SlotChange) (moment : Moment) → c.slot < length t.schemes → change_at t c.slot moment ≡ Some c
     → AreBelowTops t → AreBelowTops (after_change (Some c) t)
-change_below laws t c moment schemes is below slot =
+change_below t c moment schemes is below slot =
     (elim (slot == c.slot) as (λ b. (slot == c.slot) ≡ b → below_at (get_or (put t.schemes c.slot c.scheme) slot None) (top_at t slot)) [
       | true ↦ λ test.
           let here : slot ≡ c.slot = grind (arith, nat_tests) in
           let re = retuned_is t c.slot moment c is in
           let top = top_at t c.slot in
-          let most : re.bytes ≤ top = other_is re.before re.bytes (least_of (nexts t.goals c.slot moment re.before top)) top (least_below laws c.slot moment re.before top t.goals) re.new in
+          let most : re.bytes ≤ top = other_is re.before re.bytes (least_of (nexts t.goals c.slot moment re.before top)) top (least_below c.slot moment re.before top t.goals) re.new in
           let held : c.scheme ≡ Some (with_bytes re.scheme re.bytes) = ap (λ (x : SlotChange). x.scheme) re.is in
           let own : below_at (Some (with_bytes re.scheme re.bytes)) top =
           subst (λ (x : Option ℕ). IfSome x (λ bytes. bytes ≤ top)) (sym (bytes_are re.scheme re.before re.bytes re.was)) most in
@@ -102,9 +104,10 @@ pub record IsCarried (goals : List Goal) (tops : List ℕ) (s : State) : Type 0 
   pub each : length tops ≡ slot_count
   pub below : AreBelowTops (tuner_in goals tops s)
 
--- a commit that is accepted changes a slot that there is
-abbrev pub NamesSlots : Type 0
-NamesSlots = (parts : CommitValue) (s : State) → check_of parts s.core ≡ Ok tt → IfSome parts.slot (λ c. c.slot < slot_count)
+-- the slot that an accepted commit changes is one of the slots
+pub names_slots : (parts : CommitValue) (s : State) → check_of parts s.core ≡ Ok tt → IfSome parts.slot (λ c. c.slot < slot_count)
+names_slots parts s ok = if_some_of (λ (c : SlotChange). c.slot < slot_count) parts.slot
+    (λ c is. counted_below c.slot ((commit_accepted s.core.space (view_of s.core) parts ok).slot c is))
 
 module _ (goals : List Goal) where
   stays : (tops : List ℕ) (s : State) (e : Event) → IsNoCommit e → IsCarried goals tops s → IsCarried goals tops (after s e)
@@ -123,12 +126,12 @@ module _ (goals : List Goal) where
       let tops_room : c.slot < length tops = omega (arith, here.each, within) in
       (length-set tops c.slot (top_after c.scheme (get_or tops c.slot 0)) ∙ here.each, given_below t c room tops_room here.below)
 
-  commits : NamesSlots → (tops : List ℕ) (s : State) (parts : CommitValue) (check : Result (Unit {0}) CommitFault) → check_of parts s.core ≡ check
+  commits : (tops : List ℕ) (s : State) (parts : CommitValue) (check : Result (Unit {0}) CommitFault) → check_of parts s.core ≡ check
       → IsCarried goals tops s → IsCarried goals (tops_kept tops s (commit parts)) (after s (commit parts))
-  commits law tops s parts (Ok t) is here =
+  commits tops s parts (Ok t) is here =
       let view = tuner_in goals tops s in
       let new = option_map_or (λ c. given c view) parts.slot view in
-      let within = law parts s is in
+      let within = names_slots parts s is in
       let one = given_one tops s parts.slot within here in
       let stands = accepted_stands goals tops parts s view new None None (record { is = refl; free = tt }) is within refl in
       let kept : tops_kept tops s (commit parts) ≡ tops_after parts.slot tops =
@@ -142,7 +145,7 @@ module _ (goals : List Goal) where
       tops_given : (slot : Option SlotChange) → (option_map_or (λ c. given c (tuner_in goals tops s)) slot (tuner_in goals tops s)).tops ≡ tops_after slot tops
       tops_given None = refl
       tops_given (Some c) = refl
-  commits law tops s parts (Err fault) is here =
+  commits tops s parts (Err fault) is here =
       let view = tuner_in goals tops s in
       let stands = refused_stands goals tops parts s view None fault (record { is = refl; free = tt }) is in
       record {
@@ -152,27 +155,27 @@ module _ (goals : List Goal) where
       }
 
   -- after an event of the script
-  pub event_carries : NamesSlots → (tops : List ℕ) (s : State) (e : Event) → IsCarried goals tops s → IsCarried goals (tops_kept tops s e) (after s e)
-  event_carries law tops s (touch page) here = stays tops s (touch page) tt here
-  event_carries law tops s (prepare words) here = stays tops s (prepare words) tt here
-  event_carries law tops s clear here = stays tops s clear tt here
-  event_carries law tops s (load hit) here = stays tops s (load hit) tt here
-  event_carries law tops s observe here = stays tops s observe tt here
-  event_carries law tops s (aggregate words) here = stays tops s (aggregate words) tt here
-  event_carries law tops s (commit parts) here = commits law tops s parts (check_of parts s.core) refl here
-  event_carries law tops s show here = stays tops s show tt here
+  pub event_carries : (tops : List ℕ) (s : State) (e : Event) → IsCarried goals tops s → IsCarried goals (tops_kept tops s e) (after s e)
+  event_carries tops s (touch page) here = stays tops s (touch page) tt here
+  event_carries tops s (prepare words) here = stays tops s (prepare words) tt here
+  event_carries tops s clear here = stays tops s clear tt here
+  event_carries tops s (load hit) here = stays tops s (load hit) tt here
+  event_carries tops s observe here = stays tops s observe tt here
+  event_carries tops s (aggregate words) here = stays tops s (aggregate words) tt here
+  event_carries tops s (commit parts) here = commits tops s parts (check_of parts s.core) refl here
+  event_carries tops s show here = stays tops s show tt here
 
   -- after each of the commits that are put in
-  pub puts_carry : (laws : Bounds) (tops : List ℕ) (moment : Moment) (n from : ℕ) (s : State) → from + n ≡ slot_count → AllowsCommit s.core.phase → IsCarried goals tops s
+  pub puts_carry : (tops : List ℕ) (moment : Moment) (n from : ℕ) (s : State) → from + n ≡ slot_count → AllowsCommit s.core.phase → IsCarried goals tops s
       → (puts later : List Event) → commits_of (changes_at (tuner_in goals tops s) moment (range_with_len from n)) ≡ puts ++ later
       → IsCarried goals tops (run s puts)
-  puts_carry laws tops moment n from s all free here [] later is = here
-  puts_carry laws tops moment zero from s all free here (p ∷ puts) later is = absurd (cc is)
-  puts_carry laws tops moment (suc n) from s all free here (p ∷ puts) later is =
+  puts_carry tops moment n from s all free here [] later is = here
+  puts_carry tops moment zero from s all free here (p ∷ puts) later is = absurd (cc is)
+  puts_carry tops moment (suc n) from s all free here (p ∷ puts) later is =
       let t = tuner_in goals tops s in
       let others = changes_at t moment (range_with_len (from + 1) n) in
       (elim (change_at t from moment) as (λ o. change_at t from moment ≡ o → commits_of (cons_option o others) ≡ p ∷ (puts ++ later) → IsCarried goals tops (run s (p ∷ puts))) [
-        | None ↦ λ none these. puts_carry laws tops moment n (from + 1) s (omega arith) free here (p ∷ puts) later these
+        | None ↦ λ none these. puts_carry tops moment n (from + 1) s (omega arith) free here (p ∷ puts) later these
         | Some c ↦ λ some these.
             let below : from < slot_count = omega arith in
             let next = next_is t moment from from c below refl some in
@@ -188,8 +191,8 @@ module _ (goals : List Goal) where
             let carried : IsCarried goals tops s' = record {
               takes = event_takes (commit (change_alone c)) s here.takes;
               each = here.each;
-              below = subst AreBelowTops (sym now) (change_below laws t c moment room next.is here.below);
+              below = subst AreBelowTops (sym now) (change_below t c moment room next.is here.below);
             } in
             subst (λ (e : Event). IsCarried goals tops (run (after s e) puts)) first
-            (puts_carry laws tops moment n (from + 1) s' (omega arith) stands.free carried puts later (same ∙ rest))
+            (puts_carry tops moment n (from + 1) s' (omega arith) stands.free carried puts later (same ∙ rest))
       ]) refl is

@@ -9,6 +9,7 @@ use Rattle.quota_goal.specs.Goals.{IsGoal}
 use Rattle.quota_goal.specs.Moment.{score_of}
 use Rattle.quota_goal.specs.Next.{next}
 use Rattle.quota_goal.specs.Tuned.{least_of, next_of, nexts}
+use Rattle.quota_goal.proofs.Lemmas.{least_of_bounds, most_of_bounds}
 use Rattle.tune_run.specs.Along.{LiesBetween, least_held, scored_goals}
 
 -- the lesser of two numbers, of those that are there
@@ -37,12 +38,7 @@ lesser_below (Some a) (Some b) None (Some d) first second = absurd second
 lesser_below (Some a) (Some b) (Some c) None first second = absurd second
 lesser_below (Some a) (Some b) (Some c) (Some d) first second = omega (arith, first, second)
 
--- what is known of the next bytes by one goal
-pub record Bounds : Type 0 where
-  pub least : (g : Goal) (bytes top score : ℕ) → min g.low top ≤ next g bytes top score
-  pub most : (g : Goal) (bytes top score : ℕ) → g.low ≤ g.high → next g bytes top score ≤ min g.high top
-
-module _ (laws : Bounds) (slot : ℕ) (moment : Moment) (bytes top : ℕ) where
+module _ (slot : ℕ) (moment : Moment) (bytes top : ℕ) where
   abbrev held : (Goal → ℕ) → Goal → ℕ
   held bound g = min (bound g) top
 
@@ -65,7 +61,7 @@ module _ (laws : Bounds) (slot : ℕ) (moment : Moment) (bytes top : ℕ) where
       → (let new = if b then option_map (next g bytes top) o else None in
       AreBelow (cond (b && is_some o) (Some (held (λ x. x.low) g)) None) new × AreBelow new (cond (b && is_some o) (Some (held (λ x. x.high) g)) None))
   by_score g is true None = (tt, tt)
-  by_score g is true (Some score) = (laws.least g bytes top score, laws.most g bytes top score is.bounds)
+  by_score g is true (Some score) = (least_of_bounds g bytes top score, most_of_bounds g bytes top score is.bounds)
   by_score g is false None = (tt, tt)
   by_score g is false (Some score) = (tt, tt)
 

@@ -1,5 +1,5 @@
 -- What holds at each event of the run of a script.
-use Rattle.std.proofs.Common.{◌≡◌, ℕ, ◌<◌, ◌≤◌, min, true, false, List, [], ◌∷◌, ◌++◌, get_or, Option, Some, None, Ok, Err, Result, refl, sym, ap, subst, ◌∙◌, arith, append-nil}
+use Rattle.std.proofs.Common.{◌≡◌, ℕ, ◌<◌, ◌≤◌, true, false, List, [], ◌∷◌, ◌++◌, get_or, Option, Some, None, Ok, Err, Result, refl, sym, ap, subst, ◌∙◌, arith, append-nil}
 use Rattle.std.specs.Prelude.{◌==◌, IfSome, nat_lt, if◌then◌else◌}
 use Rattle.std.specs.List.{AllByRecursion}
 use Rattle.std.specs.Option.{option_and_then, option_map_or, unwrap_or}
@@ -29,14 +29,15 @@ use Rattle.quota_goal.specs.declared.moment.Moment.{Moment}
 use Rattle.quota_goal.specs.Goals.{IsGoal}
 use Rattle.quota_goal.specs.Next.{next}
 use Rattle.quota_goal.specs.Tuned.{TunerView, bytes_at, top_after, tunable_bytes}
+use Rattle.quota_goal.proofs.Lemmas.{bytes_fall, bytes_rise}
 use Rattle.tune_run.specs.Along.{AreBelowTops, AreTunedWithin, DoFollow, FollowTheScore, LiesBetween, put_in, scored_goals, tuner_then}
 use Rattle.tune_run.specs.Callbacks.{moment_after, schemes_in, tune_callbacks, tuned_by, tuner_in}
 use Rattle.tune_run.specs.Tops.{top_of, tops_kept, tops_of}
 use Rattle.tune_run.proofs.Accepting.{free_again, opening_takes}
-use Rattle.tune_run.proofs.Below.{IsCarried, NamesSlots, below_at, event_carries, own_top, puts_carry}
+use Rattle.tune_run.proofs.Below.{IsCarried, below_at, event_carries, own_top, puts_carry}
 use Rattle.tune_run.proofs.Bytes.{bytes_tuned, none_tunable}
 use Rattle.tune_run.proofs.Committing.{is_committed, scored_if}
-use Rattle.tune_run.proofs.Least.{Bounds, new_lies_between, one_scored}
+use Rattle.tune_run.proofs.Least.{new_lies_between, one_scored}
 use Rattle.tune_run.proofs.Slots.{schemes_of, scheme_is, top_is}
 use Rattle.tune_run.proofs.Through.{Tunes, all_tuned, tuned_scheme}
 
@@ -103,7 +104,7 @@ scored_is_free s show m scored = absurd (cc scored)
 
 -- ---- one event of the script and what is put in after it
 
-module _ (laws : Bounds) (law : NamesSlots) (goals : List Goal) (r : Course) (e : Event) (here : IsCarried goals r.memory r.moment.state) where
+module _ (goals : List Goal) (r : Course) (e : Event) (here : IsCarried goals r.memory r.moment.state) where
   abbrev pub then_state : State
   then_state = after r.moment.state e
 
@@ -114,7 +115,7 @@ module _ (laws : Bounds) (law : NamesSlots) (goals : List Goal) (r : Course) (e 
   then_tuner = tuner_in goals then_tops then_state
 
   pub carried : IsCarried goals then_tops then_state
-  carried = event_carries goals law r.memory r.moment.state e here
+  carried = event_carries goals r.memory r.moment.state e here
 
   no_puts : (puts later : List Event) → [] ≡ puts ++ later → IsCarried goals then_tops (run then_state puts)
   no_puts [] later is = carried
@@ -124,7 +125,7 @@ module _ (laws : Bounds) (law : NamesSlots) (goals : List Goal) (r : Course) (e 
   put_carried puts later is =
       (elim (moment_after r.moment.state e) as (λ o. moment_after r.moment.state e ≡ o → option_map_or (tuned_by then_tuner) o [] ≡ puts ++ later → IsCarried goals then_tops (run then_state puts)) [
         | None ↦ λ none these. no_puts puts later these
-        | Some m ↦ λ some these. puts_carry goals laws then_tops m slot_count 0 then_state (omega arith) (scored_is_free r.moment.state e m some) carried puts later these
+        | Some m ↦ λ some these. puts_carry goals then_tops m slot_count 0 then_state (omega arith) (scored_is_free r.moment.state e m some) carried puts later these
       ]) refl is
 
   -- what is put in at a moment
@@ -162,7 +163,7 @@ module _ (laws : Bounds) (law : NamesSlots) (goals : List Goal) (r : Course) (e 
       by_bytes : (o : Option ℕ) → bytes_at then_tuner slot ≡ o → is_within m slot (option_and_then tunable_bytes (tuned_scheme then_tuner slot m))
       by_bytes None is = subst (is_within m slot) (sym (none_tunable then_tuner slot m is)) tt
       by_bytes (Some bytes) is =
-          subst (is_within m slot) (sym (bytes_tuned then_tuner slot m bytes is)) (new_lies_between laws slot m bytes (get_or then_tops slot 0) goals each)
+          subst (is_within m slot) (sym (bytes_tuned then_tuner slot m bytes is)) (new_lies_between slot m bytes (get_or then_tops slot 0) goals each)
 
   pub tuned_within : AllByRecursion IsGoal goals → AreTunedWithin goals r e
   tuned_within each =
@@ -171,18 +172,16 @@ module _ (laws : Bounds) (law : NamesSlots) (goals : List Goal) (r : Course) (e 
         | Some m ↦ λ some slot. slot_within each m slot some
       ]) refl
 
-  pub follow : ((g : Goal) (bytes top score : ℕ) → score < g.target → bytes ≤ min g.high top → bytes ≤ next g bytes top score)
-      → ((g : Goal) (bytes top score : ℕ) → g.target ≤ score → min g.low top ≤ bytes → next g bytes top score ≤ bytes)
-      → FollowTheScore goals r e
-  follow rise fall m slot g score bytes new some alone scored was is =
+  pub follow : FollowTheScore goals r e
+  follow m slot g score bytes new some alone scored was is =
       by_count (DoFollow g (get_or then_tops slot 0) score bytes new) slot
       (λ within.
       let top = get_or then_tops slot 0 in
       let now : Some (next g bytes top score) ≡ Some new =
-      ap (λ o. Some (unwrap_or o bytes)) (sym (one_scored laws slot m bytes top goals g score alone scored))
+      ap (λ o. Some (unwrap_or o bytes)) (sym (one_scored slot m bytes top goals g score alone scored))
       ∙ sym (bytes_tuned then_tuner slot m bytes was) ∙ sym (bytes_then m slot some within) ∙ is in
       let same : next g bytes top score ≡ new = cc now in
-      subst (DoFollow g top score bytes) same (rise g bytes top score, fall g bytes top score))
+      subst (DoFollow g top score bytes) same (bytes_rise g bytes top score, bytes_fall g bytes top score))
       (λ beyond. let bad : None ≡ Some new = sym (no_bytes slot beyond) ∙ is in absurd (cc bad))
 
   pub course_carries : IsCarried goals (course_after (tune_callbacks goals) r e).memory (course_after (tune_callbacks goals) r e).moment.state
@@ -192,11 +191,11 @@ module _ (laws : Bounds) (law : NamesSlots) (goals : List Goal) (r : Course) (e 
 
 -- ---- all events of a run
 
-module _ (laws : Bounds) (law : NamesSlots) (goals : List Goal) where
+module _ (goals : List Goal) where
   carried_on : (es : List Event) (r : Course) → IsCarried goals r.memory r.moment.state
       → IsCarried goals (onward (going_with (tune_callbacks goals)) r es).memory (onward (going_with (tune_callbacks goals)) r es).moment.state
   carried_on [] r here = here
-  carried_on (e ∷ es) r here = carried_on es (course_after (tune_callbacks goals) r e) (course_carries laws law goals r e here)
+  carried_on (e ∷ es) r here = carried_on es (course_after (tune_callbacks goals) r e) (course_carries goals r e here)
 
   pub first_carried : (s : ScriptValue) → IsSound s → IsCarried goals (tops_of (opening s.setup).notes) (opening s.setup)
   first_carried s sound = record {

@@ -23,13 +23,13 @@ use Rattle.quota_goal.specs.Goals.{IsGoal}
 use Rattle.quota_goal.specs.Moment.{score_of}
 use Rattle.quota_goal.specs.Next.{next}
 use Rattle.quota_goal.specs.Tuned.{TunerView, bytes_at, given, least_of, nexts, scheme_at, top_after, top_at, tunable_bytes}
+use Rattle.quota_goal.proofs.Lemmas.{bytes_fall, bytes_rise, least_of_bounds, most_of_bounds}
 use Rattle.tune_run.specs.Along.{LeavesSlot, ScoresAre, StayWithTheScores, bytes_in, goals_of, put_in, score_at, tuner_before, tuner_past, tuner_then}
 use Rattle.tune_run.specs.Callbacks.{moment_after, schemes_in, tune_callbacks, tuned_by, tuner_in}
 use Rattle.tune_run.specs.Tops.{tops_kept}
-use Rattle.tune_run.proofs.Below.{IsCarried, NamesSlots}
+use Rattle.tune_run.proofs.Below.{IsCarried, names_slots}
 use Rattle.tune_run.proofs.Bytes.{bytes_tuned, none_tunable}
 use Rattle.tune_run.proofs.Committing.{accepted_stands, refused_stands}
-use Rattle.tune_run.proofs.Least.{Bounds}
 use Rattle.tune_run.proofs.Running.{by_count, bytes_then, course_carries, no_scheme}
 use Rattle.tune_run.proofs.Staying.{schemes_stay}
 
@@ -93,30 +93,30 @@ module _ (goals : List Goal) (tops : List ℕ) (s : State) (slot : ℕ) where
       let apart : slot ≡ c.slot → ⊥ = λ e. leaves (sym e) in
       (get_or-set_other (schemes_in s) c.slot slot c.scheme None apart, get_or-set_other tops c.slot slot (top_after c.scheme (get_or tops c.slot 0)) 0 apart)
 
-  by_commit : NamesSlots → (parts : CommitValue) (check : Result (Unit {0}) CommitFault) → check_of parts s.core ≡ check
+  by_commit : (parts : CommitValue) (check : Result (Unit {0}) CommitFault) → check_of parts s.core ≡ check
       → IfSome parts.slot (λ c. c.slot ≡ slot → ⊥)
       → AreAlike slot (tuner_in goals (tops_kept tops s (commit parts)) (after s (commit parts))) old_tuner
-  by_commit law parts (Ok t) is leaves =
+  by_commit parts (Ok t) is leaves =
       let new = option_map_or (λ c. given c old_tuner) parts.slot old_tuner in
-      let stands = accepted_stands goals tops parts s old_tuner new None None (record { is = refl; free = tt }) is (law parts s is) refl in
+      let stands = accepted_stands goals tops parts s old_tuner new None None (record { is = refl; free = tt }) is (names_slots parts s is) refl in
       subst (λ (x : TunerView). AreAlike slot x old_tuner) stands.is (by_change parts.slot leaves)
-  by_commit law parts (Err fault) is leaves =
+  by_commit parts (Err fault) is leaves =
       let stands = refused_stands goals tops parts s old_tuner None fault (record { is = refl; free = tt }) is in
       subst (λ (x : TunerView). AreAlike slot x old_tuner) stands.is (refl, refl)
 
-  leaves_alike : NamesSlots → (e : Event) → LeavesSlot slot e → AreAlike slot (tuner_in goals (tops_kept tops s e) (after s e)) old_tuner
-  leaves_alike law (touch page) leaves = no_commit (touch page) tt
-  leaves_alike law (prepare words) leaves = no_commit (prepare words) tt
-  leaves_alike law clear leaves = no_commit clear tt
-  leaves_alike law (load hit) leaves = no_commit (load hit) tt
-  leaves_alike law observe leaves = no_commit observe tt
-  leaves_alike law (aggregate words) leaves = no_commit (aggregate words) tt
-  leaves_alike law (commit parts) leaves = by_commit law parts (check_of parts s.core) refl leaves
-  leaves_alike law show leaves = no_commit show tt
+  leaves_alike : (e : Event) → LeavesSlot slot e → AreAlike slot (tuner_in goals (tops_kept tops s e) (after s e)) old_tuner
+  leaves_alike (touch page) leaves = no_commit (touch page) tt
+  leaves_alike (prepare words) leaves = no_commit (prepare words) tt
+  leaves_alike clear leaves = no_commit clear tt
+  leaves_alike (load hit) leaves = no_commit (load hit) tt
+  leaves_alike observe leaves = no_commit observe tt
+  leaves_alike (aggregate words) leaves = no_commit (aggregate words) tt
+  leaves_alike (commit parts) leaves = by_commit parts (check_of parts s.core) refl leaves
+  leaves_alike show leaves = no_commit show tt
 
 -- ---- one event
 
-module _ (laws : Bounds) (law : NamesSlots) (goals : List Goal) (g : Goal) (one : goals_of goals g.slot ≡ g ∷ []) where
+module _ (goals : List Goal) (g : Goal) (one : goals_of goals g.slot ≡ g ∷ []) where
   abbrev next_course : Course → Event → Course
   next_course r e = course_after (tune_callbacks goals) r e
 
@@ -133,7 +133,7 @@ module _ (laws : Bounds) (law : NamesSlots) (goals : List Goal) (g : Goal) (one 
             let put : put_in goals r e ≡ [] = ap (λ o. option_map_or (tuned_by t) o []) none in
             ap (λ (es : List Event). bytes_at (tuner_past goals r e es) g.slot) put ∙ was
         | Some m ↦ λ some.
-            bytes_then laws law goals r e here m g.slot some within
+            bytes_then goals r e here m g.slot some within
             ∙ bytes_tuned t g.slot m bytes was
             ∙ ap (λ o. Some (unwrap_or o bytes)) (by_one g.slot m bytes top goals g one)
       ]) refl
@@ -163,14 +163,14 @@ module _ (laws : Bounds) (law : NamesSlots) (goals : List Goal) (g : Goal) (one 
         | None ↦ λ none no_score. absurd (cc no_score)
         | Some m ↦ λ some its_score.
             by_count (bytes_at (tuner_then goals r e) g.slot ≡ None) g.slot
-            (λ within. bytes_then laws law goals r e here m g.slot some within ∙ none_tunable t g.slot m was)
+            (λ within. bytes_then goals r e here m g.slot some within ∙ none_tunable t g.slot m was)
             (λ beyond. beyond_all goals tops (run (after r.moment.state e) (put_in goals r e)) beyond)
       ]) refl scored
 
   -- bytes after a score lie within the bounds
   inside : (top bytes : ℕ) (score : Option ℕ) → g.low ≤ g.high → IsIn g top bytes → IsIn g top (new_by g top bytes score)
   inside top bytes None order here = here
-  inside top bytes (Some score) order here = (laws.least g bytes top score, laws.most g bytes top score order)
+  inside top bytes (Some score) order here = (least_of_bounds g bytes top score, most_of_bounds g bytes top score order)
 
   -- ---- many events
 
@@ -190,20 +190,18 @@ module _ (laws : Bounds) (law : NamesSlots) (goals : List Goal) (g : Goal) (one 
         subst (R bytes) same (itself bytes)
     stretch (e ∷ es) q here bytes new was within is scores =
         let t = tuner_before goals q e in
-        let alike = leaves_alike goals q.memory q.moment.state g.slot law e scores.0 in
+        let alike = leaves_alike goals q.memory q.moment.state g.slot e scores.0 in
         let top = top_at t g.slot in
         let before : bytes_at t g.slot ≡ Some bytes = ap (option_and_then tunable_bytes) alike.0 ∙ was in
         let now : IsIn g top bytes = subst (λ n. IsIn g n bytes) (sym alike.1) within in
         let score = score_at g q e in
         let then_bytes = new_by g top bytes score in
         chain bytes then_bytes new (moved top bytes score scores.1 now)
-        (stretch es (next_course q e) (course_carries laws law goals q e here) then_bytes new (bytes_next q e here bytes before) (inside top bytes score order now) is scores.2)
+        (stretch es (next_course q e) (course_carries goals q e here) then_bytes new (bytes_next q e here bytes before) (inside top bytes score order now) is scores.2)
 
-pub stay : (laws : Bounds) (law : NamesSlots) (goals : List Goal) (r : Course) (e : Event) → IsCarried goals r.memory r.moment.state → AllByRecursion IsGoal goals
-    → ((g : Goal) (bytes top score : ℕ) → score < g.target → bytes ≤ min g.high top → bytes ≤ next g bytes top score)
-    → ((g : Goal) (bytes top score : ℕ) → g.target ≤ score → min g.low top ≤ bytes → next g bytes top score ≤ bytes)
+pub stay : (goals : List Goal) (r : Course) (e : Event) → IsCarried goals r.memory r.moment.state → AllByRecursion IsGoal goals
     → StayWithTheScores goals r e
-stay laws law goals r e here each rise fall es g score bytes new one scored was is =
+stay goals r e here each es g score bytes new one scored was is =
     by_before (bytes_at (tuner_before goals r e) g.slot) refl
   where
     order : g.low ≤ g.high
@@ -212,17 +210,17 @@ stay laws law goals r e here each rise fall es g score bytes new one scored was 
     by_before : (o : Option ℕ) → bytes_at (tuner_before goals r e) g.slot ≡ o
         → (let q = course_after (tune_callbacks goals) r e in
         (ScoresAre goals g (λ n. n < g.target) q es → bytes ≤ new) × (ScoresAre goals g (λ n. g.target ≤ n) q es → new ≤ bytes))
-    by_before None before = let bad : None ≡ Some bytes = sym (none_next laws law goals g one r e here score scored before) ∙ was in absurd (cc bad)
+    by_before None before = let bad : None ≡ Some bytes = sym (none_next goals g one r e here score scored before) ∙ was in absurd (cc bad)
     by_before (Some earlier) before =
         let q = course_after (tune_callbacks goals) r e in
         let top = top_at (tuner_before goals r e) g.slot in
-        let now : Some (new_by g top earlier (score_at g r e)) ≡ Some bytes = sym (bytes_next laws law goals g one r e here earlier before) ∙ was in
+        let now : Some (new_by g top earlier (score_at g r e)) ≡ Some bytes = sym (bytes_next goals g one r e here earlier before) ∙ was in
         let scored_now : Some (new_by g top earlier (Some score)) ≡ Some bytes = ap (λ o. Some (new_by g top earlier o)) (sym scored) ∙ now in
         let same : new_by g top earlier (Some score) ≡ bytes = cc scored_now in
-        let within : IsIn g top bytes = subst (λ n. IsIn g top n) same (laws.least g earlier top score, laws.most g earlier top score order) in
-        let there = course_carries laws law goals r e here in (
-          stretch laws law goals g one (λ n. n < g.target) (λ a b. a ≤ b) (λ n. omega arith) (λ a b c first second. omega (arith, first, second))
-              (λ n held at low in_bounds. rise g held at n low in_bounds.1) order es q there bytes new was within is,
-          stretch laws law goals g one (λ n. g.target ≤ n) (λ a b. b ≤ a) (λ n. omega arith) (λ a b c first second. omega (arith, first, second))
-              (λ n held at high in_bounds. fall g held at n high in_bounds.0) order es q there bytes new was within is,
+        let within : IsIn g top bytes = subst (λ n. IsIn g top n) same (least_of_bounds g earlier top score, most_of_bounds g earlier top score order) in
+        let there = course_carries goals r e here in (
+          stretch goals g one (λ n. n < g.target) (λ a b. a ≤ b) (λ n. omega arith) (λ a b c first second. omega (arith, first, second))
+              (λ n held at low in_bounds. bytes_rise g held at n low in_bounds.1) order es q there bytes new was within is,
+          stretch goals g one (λ n. g.target ≤ n) (λ a b. b ≤ a) (λ n. omega arith) (λ a b c first second. omega (arith, first, second))
+              (λ n held at high in_bounds. bytes_fall g held at n high in_bounds.0) order es q there bytes new was within is,
         )

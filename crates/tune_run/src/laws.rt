@@ -30,7 +30,4 @@ pub fn each_tuned_run_follows_its_goals()
         → AreBelowTops (first_tuner goals s) }
 {
     script_run::each_run_with_callbacks_is_bound();
-    quota_goal::next_bytes_are_bounded();
-    quota_goal::bytes_follow_the_score();
-    live_commit::accepted_commits_are_within();
 }
