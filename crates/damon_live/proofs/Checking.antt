@@ -1,5 +1,5 @@
 -- A pass whose picks are all loaded, and that is observed, is one entry more.
-use Rattle.std.proofs.Common.{◌≡◌, ℕ, ◌+◌, ◌≤◌, true, false, cond, List, [], ◌∷◌, ◌++◌, length, take, refl, sym, ap, ◌∙◌, subst, arith}
+use Rattle.std.proofs.Common.{◌≡◌, ℕ, ◌+◌, true, false, cond, List, [], ◌∷◌, ◌++◌, length, take, sym, ap, ◌∙◌, subst, arith}
 use Rattle.std.specs.Prelude.{map, nat_le}
 use Rattle.std.proofs.lemmas.List.{append-nil, drop_all, take_all}
 use Rattle.atomic_table.specs.Seated.{TableId}
@@ -16,14 +16,13 @@ use Rattle.damon_core.specs.Reached.{Reached, run}
 use Rattle.damon_core.specs.State.{Core, row_count}
 use Rattle.damon_core.specs.Stands.{MonitorView, Stands}
 use Rattle.damon_control.specs.Live.{LiveValue}
-use Rattle.run_journal.specs.Phases.{passes_open}
 use Rattle.run_journal.specs.declared.entry.Entry.TheVariants.{Check, Void}
 use Rattle.run_journal.specs.Replay.{EntryFits, JournalValue, Replayed, carried, check_sizes, entry_events, replay}
 use Rattle.page_words.specs.PassSteps.{load_steps}
 use Rattle.run_journal.specs.Steps.{steps}
 use Rattle.run_journal.specs.Growth.{longer, replay_with}
 use Rattle.run_journal.proofs.Lemmas.{grows_by_entry, grows_by_other}
-use Rattle.damon_live.specs.Machine.{IsBetweenEntries, IsLoadable, IsRun, entries_owed, with_one}
+use Rattle.damon_live.specs.Machine.{IsBetweenEntries, IsLoadable, IsRun, with_one}
 use Rattle.damon_live.specs.Passes.{AreLoaded}
 
 -- the end of a pass leaves what the next entry needs
@@ -35,12 +34,6 @@ ended_after since aggr = elim (nat_le aggr since) as (λ b. IsBetween (cond b Du
 
 not_loadable : (since aggr : ℕ) → IsLoadable (phase_after_pass since aggr) → ⊥
 not_loadable since aggr = elim (nat_le aggr since) as (λ b. IsLoadable (cond b Due Idle) → ⊥) [ true ↦ λ may. may | false ↦ λ may. may ]
-
-pub no_pass_open : (since aggr : ℕ) → passes_open (phase_after_pass since aggr) ≡ 0
-no_pass_open since aggr = elim (nat_le aggr since) as (λ b. passes_open (cond b Due Idle) ≡ 0) [ true ↦ refl | false ↦ refl ]
-
-pub one_owed : (since aggr : ℕ) → entries_owed (phase_after_pass since aggr) ≤ 1
-one_owed since aggr = elim (nat_le aggr since) as (λ b. entries_owed (cond b Due Idle) ≤ 1) [ true ↦ omega arith | false ↦ omega arith ]
 
 -- the monitor observed a pass
 pub record IsObserved (m now : MonitorView) : Type 0 where

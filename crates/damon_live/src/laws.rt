@@ -7,6 +7,7 @@ pub fn whole_runs_are_read_back()
     ensures spellable { WholeRunsAreSpellable }
     ensures back { WholeRunsAreReadBack }
 {
-    // For its clause alone: each state that is reached is in its phase.
+    // For their clauses alone: reached states are in their phase, and a page has one number.
     damon_core::reached_states_are_bound();
+    damon_types::pages_are_numbered();
 }

@@ -8,5 +8,5 @@ returns c =
     let spellable : WholeRunsAreSpellable = whole_is_spellable c.reached_states_are_bound.ensures.in_phase in
     record {
       spellable = spellable;
-      back = λ text v j all read whole. journals_read_back v j all whole.lawful (spellable text v j all read whole);
+      back = λ text v j all read whole. journals_read_back c.pages_are_numbered.ensures.numbered v j all whole.lawful (spellable text v j all read whole);
     }
