@@ -21,6 +21,10 @@ spans_cleared (r ∷ rows) = ap (λ ss. span_of r ∷ ss) (spans_cleared rows)
 pub length_aged : (threshold : ℕ) (version : Version) (rows : List Row) → length (aged threshold version rows) ≡ length rows
 length_aged threshold version rows = length-map rows (aged_row threshold version)
 
+pub counts_aged : (threshold most : ℕ) (version : Version) (rows : List Row) → AllByRecursion (λ r. r.count ≤ most) rows → AllByRecursion (λ r. r.count ≤ most) (aged threshold version rows)
+counts_aged threshold most version [] few = few
+counts_aged threshold most version (r ∷ rows) few = (few.0, counts_aged threshold most version rows few.1)
+
 pub length_cleared : (rows : List Row) → length (cleared rows) ≡ length rows
 length_cleared rows = length-map rows (λ (r : Row). record r { last = r.count; count = 0 })
 

@@ -31,7 +31,7 @@ use Rattle.live_commit.specs.Accepts.{checked_phase, max_after}
 use Rattle.live_commit.specs.Commit.{CommitValue}
 use Rattle.live_commit.proofs.Lemmas.{commit_accepted}
 use Rattle.range_update.proofs.Lemmas.{counts_updated, length_updated, some_updated, tiling_updated}
-use Rattle.region_list.proofs.Lemmas.{counts_shrunk, length_shrunk, some_shrunk, tiling_shrunk}
+use Rattle.region_list.proofs.Lemmas.{counts_shrunk, length_shrunk, some_shrunk, spans_decide, tiling_shrunk}
 use Rattle.target_ranges.proofs.Lemmas.{made_each, made_in_order, made_wide}
 use Rattle.damon_core.specs.Note.{Note, set, dropped, metric, cost}
 use Rattle.damon_core.specs.State.{Core}

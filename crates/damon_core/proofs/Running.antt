@@ -14,6 +14,7 @@ use Rattle.damon_core.specs.Pass.{IsPickWithin}
 use Rattle.damon_core.specs.Makes.{Makes}
 use Rattle.damon_core.proofs.Following.{Makes-append}
 use Rattle.damon_core.specs.Stands.{MonitorView, Stands}
+use Rattle.damon_core.specs.Kept.{SinceFew}
 use Rattle.damon_core.proofs.Shown.{after_all_loads, after_clears, after_load, after_loads}
 use Rattle.damon_core.proofs.Standing.{clear_stands, load_fits, load_stands}
 
@@ -173,3 +174,12 @@ all_loads_make m (h ∷ hs) armed some count each =
     let last : load_index m.core.phase + suc (length hs) ≡ rows = omega (arith, none, count) in
     subst (λ n. Makes Stands m (record m { core = record m.core { phase = Checking n }; bits = h ∷ hs }) (map (λ x. load x) (h ∷ hs))) last
     (subst (λ k. Makes Stands m (record m { core = loaded_core (suc (length hs)) m.core; bits = take k m.bits ++ h ∷ hs }) (map (λ x. load x) (h ∷ hs))) none made)
+
+-- a load leaves the passes since the last aggregation
+pub load_since : (ph : Phase) (rows since : ℕ) → IsLoading ph rows → SinceFew ph since → since < 1000
+load_since Armed rows since loading few = few
+load_since (Checking k) rows since loading few = few
+load_since (Clearing k) rows since loading few = absurd loading
+load_since Idle rows since loading few = absurd loading
+load_since Void rows since loading few = absurd loading
+load_since Due rows since loading few = absurd loading

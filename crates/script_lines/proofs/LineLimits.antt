@@ -1,5 +1,5 @@
 -- What is within its limits once a line was read.
-use Rattle.std.proofs.Common.{◌≡◌, ◌∷◌, [], ◌&&◌, ◌-◌, ◌^◌, ◌<◌, ℕ, Bool, true, false, not, nat_le, nat_lt, List, ◌++◌, length, codes, Some, Ok, Err, refl, subst, arith}
+use Rattle.std.proofs.Common.{◌≡◌, ◌∷◌, [], ◌&&◌, ◌-◌, ◌^◌, ◌<◌, ◌≤◌, ℕ, Bool, true, false, not, nat_le, nat_lt, List, ◌++◌, length, codes, Some, Ok, Err, refl, subst, arith}
 use Rattle.std.proofs.lemmas.Bool.Decides.{nat_tests}
 use Rattle.std.specs.Prelude.{if◌then◌else◌, Result, is_ok}
 use Rattle.damon_types.specs.declared.attrs.Attrs.{Attrs}
@@ -11,6 +11,7 @@ use Rattle.damon_types.specs.declared.scheme.Version.{Version}
 use Rattle.damon_types.specs.Scheme.{checked_in}
 use Rattle.damon_types.specs.Space.{checked}
 use Rattle.line_text.specs.Number.{number}
+use Rattle.line_text.proofs.Lemmas.{number-Some}
 use Rattle.live_commit.specs.declared.fault.SetupFault.TheVariants.{OverCap as MaxOverCap}
 use Rattle.live_commit.specs.Checked.{checked_cap, checked_limits, checked_unit}
 use Rattle.live_commit.specs.Slots.{checked_slot}
@@ -18,20 +19,21 @@ use Rattle.target_ranges.specs.Checked.{checked_next}
 use Rattle.script_lines.specs.declared.kind.ScriptKind.{ScriptKind}
 use Rattle.script_lines.specs.declared.kind.ScriptKind.TheVariants.{Attrs as BadAttrs, Limit, Number, OverCap, Range as BadRange, RangesOverMax, Repeated, Scheme as BadScheme}
 use Rattle.script_lines.specs.declared.setup.Frame.{Frame}
+use Rattle.script_lines.specs.declared.blocks.TheConstants.{MAX_PASSES}
+use Rattle.script_lines.specs.Blocks.{passes_line}
 use Rattle.script_lines.specs.Fields.{attrs_in, range_in}
 use Rattle.script_lines.specs.Head.{attrs_line, cap_line, is_changed, limited, one_target, range_line, scheme_line, seed_line, target_line, unit_line}
 use Rattle.script_lines.specs.Keys.{scheme_in}
-use Rattle.script_lines.specs.Laws.{WordLaws}
-use Rattle.script_lines.specs.Within.{FollowsRanges}
 use Rattle.script_lines.specs.Refusal.{◌>>=◌, refused_as}
 use Rattle.script_lines.specs.Words.{arguments, number_32, number_64, one_word}
 use Rattle.script_lines.proofs.SlotLemmas.{checked_slot_accepted}
+use Rattle.script_lines.proofs.SpellLines.{limited-bounds}
 use Rattle.script_lines.proofs.SpellSteps.{bind-Ok, ok_or-Ok, only_if-Ok}
 
-pub seed_fits : (laws : WordLaws) (line : List ℕ) (n : ℕ) → seed_line line ≡ Ok n → n < 2 ^ 64
-seed_fits laws line n e =
+pub seed_fits : (line : List ℕ) (n : ℕ) → seed_line line ≡ Ok n → n < 2 ^ 64
+seed_fits line n e =
     let word = bind-Ok (arguments (codes "seed") line >>= one_word) number_64 n e in
-    let within = (laws.numbers (2 ^ 64 - 1) n word.0 (omega arith) (ok_or-Ok (number (2 ^ 64 - 1) word.0) Number n word.2)).1 in
+    let within = (number-Some (2 ^ 64 - 1) n word.0 (omega arith) (ok_or-Ok (number (2 ^ 64 - 1) word.0) Number n word.2)).1 in
     omega (arith, within)
 
 pub limited_passes : (r : Result ℕ ScriptKind) (least most n : ℕ) → (r >>= limited least most) ≡ Ok n → (nat_le least n && nat_le n most) ≡ true
@@ -45,6 +47,9 @@ unit_sound line n e = rw (limited_passes (arguments (codes "unit") line >>= one_
 
 pub cap_sound : (line : List ℕ) (n : ℕ) → cap_line line ≡ Ok n → checked_cap n ≡ Ok tt
 cap_sound line n e = rw (limited_passes (arguments (codes "cap") line >>= one_word >>= number_32) 3 4096 n e) refl
+
+pub passes_sound : (line : List ℕ) (n : ℕ) → passes_line line ≡ Ok n → (1 ≤ n) × (n ≤ MAX_PASSES)
+passes_sound line n e = limited-bounds (arguments (codes "passes") line >>= one_word >>= number_32) 1 1000000 n e
 
 accepted : {E : Type 0} (kind : E → ScriptKind) (r : Result (Unit {0}) E) (t : Unit {0}) → refused_as kind r ≡ Ok t → r ≡ Ok tt
 accepted kind (Ok u) t e = refl
@@ -73,6 +78,11 @@ target_sound before line t e =
     let one = bind-Ok (one_target line) _ t e in
     let passes = only_if-Ok (is_ok (checked (before ++ one.0 ∷ []))) Limit one.0 t one.2 in
     subst (λ (u : Target). checked (before ++ u ∷ []) ≡ Ok tt) passes.1 (is_ok_Ok (checked (before ++ one.0 ∷ [])) passes.0)
+
+-- a range that is accepted after others, which are fewer than the most
+pub record FollowsRanges (f : Frame) (targets : List Target) (before : List RangeSpec) (r : RangeSpec) : Type 0 where
+  pub sound : checked_next targets f.unit f.cap before r ≡ Ok tt
+  pub few : length before < f.attrs.max
 
 pub range_follows : (f : Frame) (targets : List Target) (before : List RangeSpec) (line : List ℕ) (r : RangeSpec) → range_line f targets before line ≡ Ok r → FollowsRanges f targets before r
 range_follows f targets before line r e =

@@ -10,7 +10,7 @@ use Rattle.std.proofs.lemmas.List.Sums.{AllPass-from_list_all, list_all-from_All
 use Rattle.line_text.specs.Address.{hex_digit, spelled_address}
 use Rattle.line_text.specs.Number.{number}
 use Rattle.line_text.specs.Parts.{IsPiece, is_plain, is_printable, is_word, joined, parts}
-use Rattle.script_lines.specs.Laws.{WordLaws}
+use Rattle.line_text.proofs.Lemmas.{digits-decimal, digits-hex, number-decimal, parts-joined}
 use Rattle.script_lines.specs.Words.{arguments, begins_with, same_word}
 use Rattle.script_lines.proofs.SpellSteps.{first_true, second_true}
 
@@ -49,34 +49,34 @@ decimal_some : (most n : ℕ) (word : List ℕ) → number most word ≡ Some n 
 decimal_some most n [] read = absurd cc
 decimal_some most n (c ∷ cs) read = refl
 
-pub decimal_field : (laws : WordLaws) (n : ℕ) → n < 2 ^ 64 → IsField (decimal n)
-decimal_field laws n small = record {
-  some = decimal_some (2 ^ 64 - 1) n (decimal n) (laws.spelled_numbers (2 ^ 64 - 1) n (omega arith) (omega arith));
+pub decimal_field : (n : ℕ) → n < 2 ^ 64 → IsField (decimal n)
+decimal_field n small = record {
+  some = decimal_some (2 ^ 64 - 1) n (decimal n) (number-decimal (2 ^ 64 - 1) n (omega arith) (omega arith));
   bytes = list_all-from_AllPass is_field_byte (decimal n)
-      (All-weaker (λ c. IsTrue (is_ascii_digit c)) (λ c. is_field_byte c ≡ true) (λ c digit. grind (arith, nat_tests)) (decimal n) (laws.digits n small));
+      (All-weaker (λ c. IsTrue (is_ascii_digit c)) (λ c. is_field_byte c ≡ true) (λ c digit. grind (arith, nat_tests)) (decimal n) (digits-decimal n small));
 }
 
 hex_byte : (c : ℕ) → IsSome (hex_digit c) → is_field_byte c ≡ true
 hex_byte c some = grind (arith, nat_tests)
 
-pub address_field : (laws : WordLaws) (n : ℕ) → n < 2 ^ 64 → IsField (spelled_address n)
-address_field laws n small = record {
+pub address_field : (n : ℕ) → n < 2 ^ 64 → IsField (spelled_address n)
+address_field n small = record {
   some = refl;
   bytes = list_all-from_AllPass is_field_byte (digits 16 false n)
-      (All-weaker (λ c. IsSome (hex_digit c)) (λ c. is_field_byte c ≡ true) hex_byte (digits 16 false n) (laws.hex_digits n small));
+      (All-weaker (λ c. IsSome (hex_digit c)) (λ c. is_field_byte c ≡ true) hex_byte (digits 16 false n) (digits-hex n small));
 }
 
 field_byte : (c : ℕ) → is_field_byte c ≡ true → is_word_byte c ≡ true
 field_byte c passes = grind (arith, nat_tests)
 
-pub field_8 : (laws : WordLaws) (n : ℕ) → n < 2 ^ 8 → IsField (decimal n)
-field_8 laws n small = decimal_field laws n (omega arith)
+pub field_8 : (n : ℕ) → n < 2 ^ 8 → IsField (decimal n)
+field_8 n small = decimal_field n (omega arith)
 
-pub field_16 : (laws : WordLaws) (n : ℕ) → n < 2 ^ 16 → IsField (decimal n)
-field_16 laws n small = decimal_field laws n (omega arith)
+pub field_16 : (n : ℕ) → n < 2 ^ 16 → IsField (decimal n)
+field_16 n small = decimal_field n (omega arith)
 
-pub field_32 : (laws : WordLaws) (n : ℕ) → n < 2 ^ 32 → IsField (decimal n)
-field_32 laws n small = decimal_field laws n (omega arith)
+pub field_32 : (n : ℕ) → n < 2 ^ 32 → IsField (decimal n)
+field_32 n small = decimal_field n (omega arith)
 
 -- the bytes of a number or an address are bytes of a word
 pub field_bytes : (word : List ℕ) → IsField word → list_all is_word_byte word ≡ true
@@ -91,8 +91,8 @@ pub field_piece : (separator : ℕ) → is_field_byte separator ≡ false → (w
 field_piece separator fails word field = lacks is_field_byte separator fails word field.bytes
 
 -- plain words with a space between each two are taken apart again
-pub parts-spaced : (laws : WordLaws) (word : List ℕ) (words : List (List ℕ)) → list_all is_plain_word (word ∷ words) ≡ true → parts 32 (joined 32 (word ∷ words)) ≡ word ∷ words
-parts-spaced laws word words plain = laws.pieces 32 word words
+pub parts-spaced : (word : List ℕ) (words : List (List ℕ)) → list_all is_plain_word (word ∷ words) ≡ true → parts 32 (joined 32 (word ∷ words)) ≡ word ∷ words
+parts-spaced word words plain = parts-joined 32 word words
     (All-weaker (λ w. is_plain_word w ≡ true) (IsPiece 32) (λ w passes. lacks is_word_byte 32 refl w (second_true (is_word w) (list_all is_word_byte w) passes)) (word ∷ words)
     (AllPass-from_list_all is_plain_word (word ∷ words) plain))
 
@@ -107,19 +107,19 @@ line_prints word (next ∷ words) plain =
     list_all-both is_printable word (32 ∷ joined 32 (next ∷ words)) (word_prints word (first_true (is_plain_word word) _ plain)) (line_prints next words more)
 
 -- a line of plain words is well formed
-pub is_plain-spaced : (laws : WordLaws) (word : List ℕ) (words : List (List ℕ)) → list_all is_plain_word (word ∷ words) ≡ true → is_plain (joined 32 (word ∷ words)) ≡ true
-is_plain-spaced laws word words plain = both_true (line_prints word words plain)
-    (ap (list_all is_word) (parts-spaced laws word words plain)
+pub is_plain-spaced : (word : List ℕ) (words : List (List ℕ)) → list_all is_plain_word (word ∷ words) ≡ true → is_plain (joined 32 (word ∷ words)) ≡ true
+is_plain-spaced word words plain = both_true (line_prints word words plain)
+    (ap (list_all is_word) (parts-spaced word words plain)
     ∙ list_all-weaker is_plain_word is_word (λ w passes. first_true (is_word w) (list_all is_word_byte w) passes) (word ∷ words) plain)
 
 -- a line of plain words begins with the first of them
-pub begins_with-spaced : (laws : WordLaws) (word first : List ℕ) (others : List (List ℕ)) → list_all is_plain_word (first ∷ others) ≡ true
+pub begins_with-spaced : (word first : List ℕ) (others : List (List ℕ)) → list_all is_plain_word (first ∷ others) ≡ true
     → begins_with word (joined 32 (first ∷ others)) ≡ same_word first word
-begins_with-spaced laws word first others plain = rw (parts-spaced laws first others plain) refl
+begins_with-spaced word first others plain = rw (parts-spaced first others plain) refl
 
 -- the arguments of a line of plain words are the words after the first
-pub arguments-spaced : (laws : WordLaws) (word : List ℕ) (words : List (List ℕ)) → same_word word word ≡ true → list_all is_plain_word (word ∷ words) ≡ true
+pub arguments-spaced : (word : List ℕ) (words : List (List ℕ)) → same_word word word ≡ true → list_all is_plain_word (word ∷ words) ≡ true
     → arguments word (joined 32 (word ∷ words)) ≡ Ok words
-arguments-spaced laws word words same plain =
-    let begins = begins_with-spaced laws word word words plain ∙ same in
-    rw (begins, is_plain-spaced laws word words plain, parts-spaced laws word words plain) refl
+arguments-spaced word words same plain =
+    let begins = begins_with-spaced word word words plain ∙ same in
+    rw (begins, is_plain-spaced word words plain, parts-spaced word words plain) refl

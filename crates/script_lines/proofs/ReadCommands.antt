@@ -23,7 +23,7 @@ use Rattle.script_lines.specs.Fields.{attrs_in, cost_in, range_in}
 use Rattle.script_lines.specs.Fits.{FitsAttrs, FitsCost, FitsRange}
 use Rattle.script_lines.specs.Head.{limited}
 use Rattle.script_lines.specs.Keys.{scheme_in}
-use Rattle.script_lines.specs.Laws.{GivesScheme, IsCommand, IsPart, IsSweep, WordLaws, may_come}
+use Rattle.script_lines.specs.Laws.{GivesScheme, IsCommand, IsPart, IsSweep, may_come}
 use Rattle.script_lines.specs.Refusal.{◌>>=◌, only_if}
 use Rattle.script_lines.specs.Spelling.{spelled_attrs, spelled_cost, spelled_range}
 use Rattle.script_lines.proofs.SpelledParts.{attrs_words, cost_words, range_words, scheme_words, spelled_sweep, spelled_touch}
@@ -51,16 +51,16 @@ step_way space line command no_touch no_sweep here read =
     passed_over (begins_with (codes "touch") line) _ _ (Ok command) no_touch
     (passed_over (begins_with (codes "sweep") line) _ _ (Ok command) no_sweep (chosen (begins_with (codes "step") line) _ _ (Ok command) here read))
 
-touch_line-spelled : (laws : WordLaws) (space : List Target) (target addr page : ℕ) → target < 2 ^ 32 → addr < 2 ^ 64 → page_of space target addr ≡ Some page
+touch_line-spelled : (space : List Target) (target addr page : ℕ) → target < 2 ^ 32 → addr < 2 ^ 64 → page_of space target addr ≡ Some page
     → command_line space (spelled_touch target addr) ≡ Ok (Touch page)
-touch_line-spelled laws space target addr page target_fits addr_fits holds =
+touch_line-spelled space target addr page target_fits addr_fits holds =
     let words = decimal target ∷ spelled_address addr ∷ [] in
     let plain : list_all is_plain_word words ≡ true =
-    both_true (field_word (decimal target) (field_32 laws target target_fits)) (both_true (field_word (spelled_address addr) (address_field laws addr addr_fits)) refl) in
-    touch_way space (spelled_touch target addr) (Touch page) (begins_with-spaced laws (codes "touch") (codes "touch") words plain)
-    (arguments-read laws (codes "touch") words _ (Ok (Touch page)) refl plain
-    (then-Ok (number_32 (decimal target)) _ target _ (number_32-decimal laws target target_fits)
-    (then-Ok (byte_address (spelled_address addr)) _ addr _ (byte_address-spelled laws addr addr_fits)
+    both_true (field_word (decimal target) (field_32 target target_fits)) (both_true (field_word (spelled_address addr) (address_field addr addr_fits)) refl) in
+    touch_way space (spelled_touch target addr) (Touch page) (begins_with-spaced (codes "touch") (codes "touch") words plain)
+    (arguments-read (codes "touch") words _ (Ok (Touch page)) refl plain
+    (then-Ok (number_32 (decimal target)) _ target _ (number_32-decimal target target_fits)
+    (then-Ok (byte_address (spelled_address addr)) _ addr _ (byte_address-spelled addr addr_fits)
     (then-Ok (ok_or (page_of space target addr) Outside) _ page _ (ap (λ o. ok_or o Outside) holds) refl))))
 
 -- the page after the last is the end of a sweep
@@ -68,57 +68,57 @@ swept_end : (o : Option ℕ) (first end : ℕ) → option_map (λ last. last + 1
 swept_end None first end e = absurd cc
 swept_end (Some last) first end e = let same : last + 1 ≡ end = cc in ap (λ n. Ok (Sweep first n)) same
 
-sweep_line-spelled : (laws : WordLaws) (space : List Target) (line : List ℕ) (first end : ℕ) (is : IsSweep space line first end)
+sweep_line-spelled : (space : List Target) (line : List ℕ) (first end : ℕ) (is : IsSweep space line first end)
     → command_line space (spelled_sweep is.target is.from is.to) ≡ Ok (Sweep first end)
-sweep_line-spelled laws space line first end is =
+sweep_line-spelled space line first end is =
     let target = is.target in
     let from = is.from in
     let to = is.to in
     let words = decimal target ∷ spelled_address from ∷ spelled_address to ∷ [] in
     let said = spelled_sweep target from to in
     let plain : list_all is_plain_word words ≡ true =
-    both_true (field_word (decimal target) (field_32 laws target is.target_fits))
-    (both_true (field_word (spelled_address from) (address_field laws from is.from_fits)) (both_true (field_word (spelled_address to) (address_field laws to is.to_fits)) refl)) in
-    sweep_way space said (Sweep first end) (begins_with-spaced laws (codes "touch") (codes "sweep") words plain) (begins_with-spaced laws (codes "sweep") (codes "sweep") words plain)
-    (arguments-read laws (codes "sweep") words _ (Ok (Sweep first end)) refl plain
-    (then-Ok (number_32 (decimal target)) _ target _ (number_32-decimal laws target is.target_fits)
-    (then-Ok (byte_address (spelled_address from)) _ from _ (byte_address-spelled laws from is.from_fits)
-    (then-Ok (byte_address (spelled_address to)) _ to _ (byte_address-spelled laws to is.to_fits)
+    both_true (field_word (decimal target) (field_32 target is.target_fits))
+    (both_true (field_word (spelled_address from) (address_field from is.from_fits)) (both_true (field_word (spelled_address to) (address_field to is.to_fits)) refl)) in
+    sweep_way space said (Sweep first end) (begins_with-spaced (codes "touch") (codes "sweep") words plain) (begins_with-spaced (codes "sweep") (codes "sweep") words plain)
+    (arguments-read (codes "sweep") words _ (Ok (Sweep first end)) refl plain
+    (then-Ok (number_32 (decimal target)) _ target _ (number_32-decimal target is.target_fits)
+    (then-Ok (byte_address (spelled_address from)) _ from _ (byte_address-spelled from is.from_fits)
+    (then-Ok (byte_address (spelled_address to)) _ to _ (byte_address-spelled to is.to_fits)
     (then-Ok (only_if (are_swept from to) Limit (tt {0})) _ tt _ (ap (λ t. only_if t Limit (tt {0})) is.whole)
     (then-Ok (ok_or (page_of space target from) Outside) _ first _ (ap (λ o. ok_or o Outside) is.begins)
     (swept_end (page_of space target (to - 4096)) first end is.ends)))))))
 
-step_line-spelled : (laws : WordLaws) (space : List Target) (times : ℕ) → 1 ≤ times → times ≤ 1000000 → command_line space (codes "step " ++ decimal times) ≡ Ok (Step times)
-step_line-spelled laws space times low high =
+step_line-spelled : (space : List Target) (times : ℕ) → 1 ≤ times → times ≤ 1000000 → command_line space (codes "step " ++ decimal times) ≡ Ok (Step times)
+step_line-spelled space times low high =
     let said = (codes "step " ++ decimal times) in
     let words = decimal times ∷ [] in
-    let plain : list_all is_plain_word words ≡ true = both_true (field_word (decimal times) (field_32 laws times (omega arith))) refl in
-    step_way space said (Step times) (begins_with-spaced laws (codes "touch") (codes "step") words plain) (begins_with-spaced laws (codes "sweep") (codes "step") words plain)
-    (begins_with-spaced laws (codes "step") (codes "step") words plain)
+    let plain : list_all is_plain_word words ≡ true = both_true (field_word (decimal times) (field_32 times (omega arith))) refl in
+    step_way space said (Step times) (begins_with-spaced (codes "touch") (codes "step") words plain) (begins_with-spaced (codes "sweep") (codes "step") words plain)
+    (begins_with-spaced (codes "step") (codes "step") words plain)
     (then-Ok (arguments (codes "step") said >>= one_word >>= number_32 >>= limited 1 1000000) _ times _
-    (then-Ok (arguments (codes "step") said >>= one_word >>= number_32) (limited 1 1000000) times _ (number_line laws (codes "step") times refl refl (omega arith)) (limited-within 1 1000000 times low high))
+    (then-Ok (arguments (codes "step") said >>= one_word >>= number_32) (limited 1 1000000) times _ (number_line (codes "step") times refl refl (omega arith)) (limited-within 1 1000000 times low high))
     refl)
 
 -- a line that says a command is read as that command
-pub command_line-said : (laws : WordLaws) (space : List Target) (line : List ℕ) (command : CommandValue) → IsCommand space line command → command_line space line ≡ Ok command
-command_line-said laws space line (Touch page) is =
-    ap (command_line space) is.spelled ∙ touch_line-spelled laws space is.target is.addr page is.target_fits is.addr_fits is.holds
-command_line-said laws space line (Sweep first end) is = ap (command_line space) is.spelled ∙ sweep_line-spelled laws space line first end is
-command_line-said laws space line (Step times) is = ap (command_line space) is.0 ∙ step_line-spelled laws space times is.1 is.2
-command_line-said laws space line Arm is = ap (command_line space) is
-command_line-said laws space line Finish is = ap (command_line space) is
-command_line-said laws space line Show is = ap (command_line space) is
-command_line-said laws space line (Commit commit) is = absurd is
+pub command_line-said : (space : List Target) (line : List ℕ) (command : CommandValue) → IsCommand space line command → command_line space line ≡ Ok command
+command_line-said space line (Touch page) is =
+    ap (command_line space) is.spelled ∙ touch_line-spelled space is.target is.addr page is.target_fits is.addr_fits is.holds
+command_line-said space line (Sweep first end) is = ap (command_line space) is.spelled ∙ sweep_line-spelled space line first end is
+command_line-said space line (Step times) is = ap (command_line space) is.0 ∙ step_line-spelled space times is.1 is.2
+command_line-said space line Arm is = ap (command_line space) is
+command_line-said space line Finish is = ap (command_line space) is
+command_line-said space line Show is = ap (command_line space) is
+command_line-said space line (Commit commit) is = absurd is
 
 -- a line with another first word fails a test for this word, wherever it stands
-other_word : (laws : WordLaws) (word first : List ℕ) (others : List (List ℕ)) (wanted : Bool) → list_all is_plain_word (first ∷ others) ≡ true → same_word first word ≡ false
+other_word : (word first : List ℕ) (others : List (List ℕ)) (wanted : Bool) → list_all is_plain_word (first ∷ others) ≡ true → same_word first word ≡ false
     → (begins_with word (joined 32 (first ∷ others)) && wanted) ≡ false
-other_word laws word first others wanted plain other = ap (λ b. b && wanted) (begins_with-spaced laws word first others plain ∙ other)
+other_word word first others wanted plain other = ap (λ b. b && wanted) (begins_with-spaced word first others plain ∙ other)
 
 -- a line with this first word passes the test for it, where it may come
-this_word : (laws : WordLaws) (word : List ℕ) (others : List (List ℕ)) (wanted : Bool) → list_all is_plain_word (word ∷ others) ≡ true → same_word word word ≡ true → wanted ≡ true
+this_word : (word : List ℕ) (others : List (List ℕ)) (wanted : Bool) → list_all is_plain_word (word ∷ others) ≡ true → same_word word word ≡ true → wanted ≡ true
     → (begins_with word (joined 32 (word ∷ others)) && wanted) ≡ true
-this_word laws word others wanted plain same comes = both_true (begins_with-spaced laws word word others plain ∙ same) comes
+this_word word others wanted plain same comes = both_true (begins_with-spaced word word others plain ∙ same) comes
 
 -- a line that begins with `range` is read as a range, after the test for attributes
 range_way : (version : Version) (before : CommitValue) (line : List ℕ) (part : Part) → (begins_with (codes "attrs") line && wants_attrs before) ≡ false → (begins_with (codes "range") line && wants_slot before) ≡ true
@@ -167,81 +167,81 @@ cost_way version before line part no_attrs no_range no_scheme no_drop no_metric 
     (passed_over (begins_with (codes "metric") line && wants_metric before) _ _ (Ok part) no_metric
     (chosen (begins_with (codes "cost") line && wants_cost version before) _ _ (Ok part) here read)))))
 
-attrs_part-said : (laws : WordLaws) (version : Version) (before : CommitValue) (a : AttrsValue) → wants_attrs before ≡ true → FitsAttrs a → part_line version before (spelled_attrs a) ≡ Ok (Attrs a)
-attrs_part-said laws version before a comes fits =
-    let plain = attrs_words-plain laws a fits in
-    chosen (begins_with (codes "attrs") (spelled_attrs a) && wants_attrs before) _ _ (Ok (Attrs a)) (this_word laws (codes "attrs") (attrs_words a) (wants_attrs before) plain refl comes)
-    (then-Ok (arguments (codes "attrs") (spelled_attrs a) >>= attrs_in) _ a _ (arguments-read laws (codes "attrs") (attrs_words a) attrs_in (Ok a) refl plain (attrs_in-words laws a fits)) refl)
+attrs_part-said : (version : Version) (before : CommitValue) (a : AttrsValue) → wants_attrs before ≡ true → FitsAttrs a → part_line version before (spelled_attrs a) ≡ Ok (Attrs a)
+attrs_part-said version before a comes fits =
+    let plain = attrs_words-plain a fits in
+    chosen (begins_with (codes "attrs") (spelled_attrs a) && wants_attrs before) _ _ (Ok (Attrs a)) (this_word (codes "attrs") (attrs_words a) (wants_attrs before) plain refl comes)
+    (then-Ok (arguments (codes "attrs") (spelled_attrs a) >>= attrs_in) _ a _ (arguments-read (codes "attrs") (attrs_words a) attrs_in (Ok a) refl plain (attrs_in-words a fits)) refl)
 
-range_part-said : (laws : WordLaws) (version : Version) (before : CommitValue) (r : RangeSpec) → wants_slot before ≡ true → FitsRange r → part_line version before (spelled_range r) ≡ Ok (Range r)
-range_part-said laws version before r comes fits =
-    let plain = range_words-plain laws r fits in
-    range_way version before (spelled_range r) (Range r) (other_word laws (codes "attrs") (codes "range") (range_words r) (wants_attrs before) plain refl)
-    (this_word laws (codes "range") (range_words r) (wants_slot before) plain refl comes)
-    (then-Ok (arguments (codes "range") (spelled_range r) >>= range_in) _ r _ (arguments-read laws (codes "range") (range_words r) range_in (Ok r) refl plain (range_in-words laws r fits)) refl)
+range_part-said : (version : Version) (before : CommitValue) (r : RangeSpec) → wants_slot before ≡ true → FitsRange r → part_line version before (spelled_range r) ≡ Ok (Range r)
+range_part-said version before r comes fits =
+    let plain = range_words-plain r fits in
+    range_way version before (spelled_range r) (Range r) (other_word (codes "attrs") (codes "range") (range_words r) (wants_attrs before) plain refl)
+    (this_word (codes "range") (range_words r) (wants_slot before) plain refl comes)
+    (then-Ok (arguments (codes "range") (spelled_range r) >>= range_in) _ r _ (arguments-read (codes "range") (range_words r) range_in (Ok r) refl plain (range_in-words r fits)) refl)
 
-change_line-said : (laws : WordLaws) (version : Version) (line : List ℕ) (change : SlotChange) → GivesScheme version line change → change_line version line ≡ Ok change
-change_line-said laws version line change gives =
+change_line-said : (version : Version) (line : List ℕ) (change : SlotChange) → GivesScheme version line change → change_line version line ≡ Ok change
+change_line-said version line change gives =
     then-Ok (arguments (codes "scheme") line >>= scheme_in version) _ (change.slot, gives.0) _
-    (scheme-read laws version line change.slot gives.0 (scheme_in version) (Ok (change.slot, gives.0)) gives.2 (λ words said. said))
+    (scheme-read version line change.slot gives.0 (scheme_in version) (Ok (change.slot, gives.0)) gives.2 (λ words said. said))
     (ap (λ s. Ok (record { slot = change.slot; scheme = s })) (sym gives.1))
 
-scheme_part-said : (laws : WordLaws) (version : Version) (before : CommitValue) (line : List ℕ) (change : SlotChange) → wants_slot before ≡ true → GivesScheme version line change
+scheme_part-said : (version : Version) (before : CommitValue) (line : List ℕ) (change : SlotChange) → wants_slot before ≡ true → GivesScheme version line change
     → part_line version before line ≡ Ok (Slot change)
-scheme_part-said laws version before line change comes gives =
+scheme_part-said version before line change comes gives =
     let is = gives.2 in
     let words = scheme_words change.slot is.action is.settings in
-    let plain = scheme_words-plain laws change.slot is.action is.settings is.small is.fit in
+    let plain = scheme_words-plain change.slot is.action is.settings is.small is.fit in
     scheme_way version before line (Slot change)
-    (ap (λ l. begins_with (codes "attrs") l && wants_attrs before) is.spelled ∙ other_word laws (codes "attrs") (codes "scheme") words (wants_attrs before) plain refl)
-    (ap (λ l. begins_with (codes "range") l && wants_slot before) is.spelled ∙ other_word laws (codes "range") (codes "scheme") words (wants_slot before) plain refl)
-    (ap (λ l. begins_with (codes "scheme") l && wants_slot before) is.spelled ∙ this_word laws (codes "scheme") words (wants_slot before) plain refl comes)
-    (then-Ok (change_line version line) _ change _ (change_line-said laws version line change gives) refl)
+    (ap (λ l. begins_with (codes "attrs") l && wants_attrs before) is.spelled ∙ other_word (codes "attrs") (codes "scheme") words (wants_attrs before) plain refl)
+    (ap (λ l. begins_with (codes "range") l && wants_slot before) is.spelled ∙ other_word (codes "range") (codes "scheme") words (wants_slot before) plain refl)
+    (ap (λ l. begins_with (codes "scheme") l && wants_slot before) is.spelled ∙ this_word (codes "scheme") words (wants_slot before) plain refl comes)
+    (then-Ok (change_line version line) _ change _ (change_line-said version line change gives) refl)
 
-drop_line-spelled : (laws : WordLaws) (slot : ℕ) → slot < 2 ^ 8 → drop_line (codes "drop " ++ decimal slot) ≡ Ok (record { slot = slot; scheme = None })
-drop_line-spelled laws slot small =
+drop_line-spelled : (slot : ℕ) → slot < 2 ^ 8 → drop_line (codes "drop " ++ decimal slot) ≡ Ok (record { slot = slot; scheme = None })
+drop_line-spelled slot small =
     then-Ok (arguments (codes "drop") (codes "drop " ++ decimal slot) >>= one_word >>= number_8) _ slot _
-    (one_word-read laws (codes "drop") (decimal slot) number_8 (Ok slot) refl (both_true (field_word (decimal slot) (field_8 laws slot small)) refl) (number_8-decimal laws slot small)) refl
+    (one_word-read (codes "drop") (decimal slot) number_8 (Ok slot) refl (both_true (field_word (decimal slot) (field_8 slot small)) refl) (number_8-decimal slot small)) refl
 
-drop_part-said : (laws : WordLaws) (version : Version) (before : CommitValue) (slot : ℕ) → wants_slot before ≡ true → slot < 2 ^ 8
+drop_part-said : (version : Version) (before : CommitValue) (slot : ℕ) → wants_slot before ≡ true → slot < 2 ^ 8
     → part_line version before (codes "drop " ++ decimal slot) ≡ Ok (Slot (record { slot = slot; scheme = None }))
-drop_part-said laws version before slot comes small =
+drop_part-said version before slot comes small =
     let said = (codes "drop " ++ decimal slot) in
     let words = decimal slot ∷ [] in
-    let plain : list_all is_plain_word words ≡ true = both_true (field_word (decimal slot) (field_8 laws slot small)) refl in
+    let plain : list_all is_plain_word words ≡ true = both_true (field_word (decimal slot) (field_8 slot small)) refl in
     let change : SlotChange = record { slot = slot; scheme = None } in
-    drop_way version before said (Slot change) (other_word laws (codes "attrs") (codes "drop") words (wants_attrs before) plain refl)
-    (other_word laws (codes "range") (codes "drop") words (wants_slot before) plain refl) (other_word laws (codes "scheme") (codes "drop") words (wants_slot before) plain refl)
-    (this_word laws (codes "drop") words (wants_slot before) plain refl comes) (then-Ok (drop_line said) _ change _ (drop_line-spelled laws slot small) refl)
+    drop_way version before said (Slot change) (other_word (codes "attrs") (codes "drop") words (wants_attrs before) plain refl)
+    (other_word (codes "range") (codes "drop") words (wants_slot before) plain refl) (other_word (codes "scheme") (codes "drop") words (wants_slot before) plain refl)
+    (this_word (codes "drop") words (wants_slot before) plain refl comes) (then-Ok (drop_line said) _ change _ (drop_line-spelled slot small) refl)
 
-metric_part-said : (laws : WordLaws) (version : Version) (before : CommitValue) (value : ℕ) → wants_metric before ≡ true → value < 2 ^ 32 → part_line version before (codes "metric " ++ decimal value) ≡ Ok (Metric value)
-metric_part-said laws version before value comes small =
+metric_part-said : (version : Version) (before : CommitValue) (value : ℕ) → wants_metric before ≡ true → value < 2 ^ 32 → part_line version before (codes "metric " ++ decimal value) ≡ Ok (Metric value)
+metric_part-said version before value comes small =
     let said = (codes "metric " ++ decimal value) in
     let words = decimal value ∷ [] in
-    let plain : list_all is_plain_word words ≡ true = both_true (field_word (decimal value) (field_32 laws value small)) refl in
-    metric_way version before said (Metric value) (other_word laws (codes "attrs") (codes "metric") words (wants_attrs before) plain refl)
-    (other_word laws (codes "range") (codes "metric") words (wants_slot before) plain refl) (other_word laws (codes "scheme") (codes "metric") words (wants_slot before) plain refl)
-    (other_word laws (codes "drop") (codes "metric") words (wants_slot before) plain refl) (this_word laws (codes "metric") words (wants_metric before) plain refl comes)
-    (then-Ok (arguments (codes "metric") said >>= one_word >>= number_32) _ value _ (number_line laws (codes "metric") value refl refl small) refl)
+    let plain : list_all is_plain_word words ≡ true = both_true (field_word (decimal value) (field_32 value small)) refl in
+    metric_way version before said (Metric value) (other_word (codes "attrs") (codes "metric") words (wants_attrs before) plain refl)
+    (other_word (codes "range") (codes "metric") words (wants_slot before) plain refl) (other_word (codes "scheme") (codes "metric") words (wants_slot before) plain refl)
+    (other_word (codes "drop") (codes "metric") words (wants_slot before) plain refl) (this_word (codes "metric") words (wants_metric before) plain refl comes)
+    (then-Ok (arguments (codes "metric") said >>= one_word >>= number_32) _ value _ (number_line (codes "metric") value refl refl small) refl)
 
-cost_part-said : (laws : WordLaws) (version : Version) (before : CommitValue) (cost : CostPart) → wants_cost version before ≡ true → FitsCost cost
+cost_part-said : (version : Version) (before : CommitValue) (cost : CostPart) → wants_cost version before ≡ true → FitsCost cost
     → part_line version before (spelled_cost cost) ≡ Ok (Cost cost)
-cost_part-said laws version before cost comes fits =
+cost_part-said version before cost comes fits =
     let said = spelled_cost cost in
     let words = cost_words cost in
-    let plain = cost_words-plain laws cost fits in
-    cost_way version before said (Cost cost) (other_word laws (codes "attrs") (codes "cost") words (wants_attrs before) plain refl)
-    (other_word laws (codes "range") (codes "cost") words (wants_slot before) plain refl) (other_word laws (codes "scheme") (codes "cost") words (wants_slot before) plain refl)
-    (other_word laws (codes "drop") (codes "cost") words (wants_slot before) plain refl) (other_word laws (codes "metric") (codes "cost") words (wants_metric before) plain refl)
-    (this_word laws (codes "cost") words (wants_cost version before) plain refl comes)
-    (then-Ok (arguments (codes "cost") said >>= cost_in) _ cost _ (arguments-read laws (codes "cost") words cost_in (Ok cost) refl plain (cost_in-words laws cost fits)) refl)
+    let plain = cost_words-plain cost fits in
+    cost_way version before said (Cost cost) (other_word (codes "attrs") (codes "cost") words (wants_attrs before) plain refl)
+    (other_word (codes "range") (codes "cost") words (wants_slot before) plain refl) (other_word (codes "scheme") (codes "cost") words (wants_slot before) plain refl)
+    (other_word (codes "drop") (codes "cost") words (wants_slot before) plain refl) (other_word (codes "metric") (codes "cost") words (wants_metric before) plain refl)
+    (this_word (codes "cost") words (wants_cost version before) plain refl comes)
+    (then-Ok (arguments (codes "cost") said >>= cost_in) _ cost _ (arguments-read (codes "cost") words cost_in (Ok cost) refl plain (cost_in-words cost fits)) refl)
 
 -- a line that says a part, where it may come, is read as that part
-pub part_line-said : (laws : WordLaws) (version : Version) (before : CommitValue) (line : List ℕ) (part : Part) → may_come version before part ≡ true → IsPart version line part → part_line version before line ≡ Ok part
-part_line-said laws version before line (Attrs attrs) comes is = ap (part_line version before) is.0 ∙ attrs_part-said laws version before attrs comes is.1
-part_line-said laws version before line (Range range) comes is = ap (part_line version before) is.0 ∙ range_part-said laws version before range comes is.1
-part_line-said laws version before line (Slot change) comes (inl gives) = scheme_part-said laws version before line change comes gives
-part_line-said laws version before line (Slot change) comes (inr empties) =
-    ap (part_line version before) empties.1 ∙ drop_part-said laws version before change.slot comes empties.2 ∙ ap (λ s. Ok (Slot (record { slot = change.slot; scheme = s }))) (sym empties.0)
-part_line-said laws version before line (Metric value) comes is = ap (part_line version before) is.0 ∙ metric_part-said laws version before value comes is.1
-part_line-said laws version before line (Cost cost) comes is = ap (part_line version before) is.0 ∙ cost_part-said laws version before cost comes is.1
+pub part_line-said : (version : Version) (before : CommitValue) (line : List ℕ) (part : Part) → may_come version before part ≡ true → IsPart version line part → part_line version before line ≡ Ok part
+part_line-said version before line (Attrs attrs) comes is = ap (part_line version before) is.0 ∙ attrs_part-said version before attrs comes is.1
+part_line-said version before line (Range range) comes is = ap (part_line version before) is.0 ∙ range_part-said version before range comes is.1
+part_line-said version before line (Slot change) comes (inl gives) = scheme_part-said version before line change comes gives
+part_line-said version before line (Slot change) comes (inr empties) =
+    ap (part_line version before) empties.1 ∙ drop_part-said version before change.slot comes empties.2 ∙ ap (λ s. Ok (Slot (record { slot = change.slot; scheme = s }))) (sym empties.0)
+part_line-said version before line (Metric value) comes is = ap (part_line version before) is.0 ∙ metric_part-said version before value comes is.1
+part_line-said version before line (Cost cost) comes is = ap (part_line version before) is.0 ∙ cost_part-said version before cost comes is.1

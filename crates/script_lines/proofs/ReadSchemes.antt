@@ -18,7 +18,6 @@ use Rattle.script_lines.specs.declared.keys.Setting.{Setting}
 use Rattle.script_lines.specs.declared.keys.Setting.TheVariants.{Size as SizeOf, Count as CountOf, Age as AgeOf, Quota as QuotaOf, Time as TimeOf, Weights as WeightsOf, Prefer as PreferOf, Marks as MarksOf, Filter as FilterOf}
 use Rattle.script_lines.specs.Fits.{FitsSetting}
 use Rattle.script_lines.specs.Keys.{action_of, are_formed, comes_later, is_formed, is_misformed, key_and_value, may_be_timed, may_follow, place_in, scheme_in, settings_of, with_settings}
-use Rattle.script_lines.specs.Laws.{WordLaws}
 use Rattle.script_lines.specs.Refusal.{only_if}
 use Rattle.script_lines.specs.Separators.{colon, comma}
 use Rattle.damon_types.specs.Actions.{action_name}
@@ -134,18 +133,18 @@ after_may_follow version earlier later e =
     }
 
 -- the spelling of a setting that may follow has the right form
-is_formed-spelled : (laws : WordLaws) (version : Version) (last : Option ℕ) (x : Setting) → FitsSetting x → may_follow version last (key_of x) ≡ true
+is_formed-spelled : (version : Version) (last : Option ℕ) (x : Setting) → FitsSetting x → may_follow version last (key_of x) ≡ true
     → is_formed version last (key_and_value (spelled_setting x)) ≡ true
-is_formed-spelled laws version last x fits follows =
-    ap (is_formed version last) (key_and_value-spelled x) ∙ both_true follows (ap (λ r. not (is_misformed r)) (setting_for-spelled laws x fits))
+is_formed-spelled version last x fits follows =
+    ap (is_formed version last) (key_and_value-spelled x) ∙ both_true follows (ap (λ r. not (is_misformed r)) (setting_for-spelled x fits))
 
 -- the spellings of settings in order have the right form
-are_formed-spelled : (laws : WordLaws) (version : Version) (last : Option Setting) (xs : List Setting) → AreAfter version last xs → AllByRecursion FitsSetting xs
+are_formed-spelled : (version : Version) (last : Option Setting) (xs : List Setting) → AreAfter version last xs → AllByRecursion FitsSetting xs
     → are_formed version (place_of last) (map spelled_setting xs) ≡ true
-are_formed-spelled laws version last [] order fit = refl
-are_formed-spelled laws version last (x ∷ xs) order fit =
-    both_true (is_formed-spelled laws version (place_of last) x fit.0 (may_follow-after version last x order.0))
-    (ap (λ r. are_formed version (place_in r) (map spelled_setting xs)) (key_and_value-spelled x) ∙ are_formed-spelled laws version (Some x) xs order.1 fit.1)
+are_formed-spelled version last [] order fit = refl
+are_formed-spelled version last (x ∷ xs) order fit =
+    both_true (is_formed-spelled version (place_of last) x fit.0 (may_follow-after version last x order.0))
+    (ap (λ r. are_formed version (place_in r) (map spelled_setting xs)) (key_and_value-spelled x) ∙ are_formed-spelled version (Some x) xs order.1 fit.1)
 
 -- spellings of settings that have the right form are in order
 pub in_order-formed : (version : Version) (last : Option Setting) (xs : List Setting) → are_formed version (place_of last) (map spelled_setting xs) ≡ true
@@ -161,15 +160,15 @@ in_order-formed version last (x ∷ xs) formed =
     )
 
 -- the words of a scheme are read as that scheme
-pub scheme_in-words : (laws : WordLaws) (version : Version) (slot : ℕ) (action : Action) (settings : List Setting) (scheme : Scheme) → slot < 2 ^ 8 → AllByRecursion FitsSetting settings → AreAfter version None settings
+pub scheme_in-words : (version : Version) (slot : ℕ) (action : Action) (settings : List Setting) (scheme : Scheme) → slot < 2 ^ 8 → AllByRecursion FitsSetting settings → AreAfter version None settings
     → settled (default_scheme action) settings ≡ Ok scheme → scheme_in version (scheme_words slot action settings) ≡ Ok (slot, scheme)
-scheme_in-words laws version slot action settings scheme small fit order made =
+scheme_in-words version slot action settings scheme small fit order made =
     let keys = map spelled_setting settings in
     then-Ok (ok_or (action_of (action_name action)) Form) _ action _ (ap (λ o. ok_or o Form) (action_of-spelled action))
-    (then-Ok (only_if (are_formed version None keys) Form (tt {0})) _ tt _ (ap (λ t. only_if t Form (tt {0})) (are_formed-spelled laws version None settings order fit))
-    (then-Ok (number_8 (decimal slot)) _ slot _ (number_8-decimal laws slot small)
+    (then-Ok (only_if (are_formed version None keys) Form (tt {0})) _ tt _ (ap (λ t. only_if t Form (tt {0})) (are_formed-spelled version None settings order fit))
+    (then-Ok (number_8 (decimal slot)) _ slot _ (number_8-decimal slot small)
     (then-Ok (with_settings (default_scheme action) keys) _ scheme _
-    (then-Ok (settings_of keys) (settled (default_scheme action)) settings _ (settings_of-spelled laws settings fit) made) refl)))
+    (then-Ok (settings_of keys) (settled (default_scheme action)) settings _ (settings_of-spelled settings fit) made) refl)))
 
 action_word : (action : Action) → is_plain_word (action_name action) ≡ true
 action_word Stat = refl
@@ -200,39 +199,39 @@ prefer_bytes : (prefer : Prefer) → list_all is_word_byte (spelled_prefer prefe
 prefer_bytes Hot = refl
 prefer_bytes Cold = refl
 
-value_bytes : (laws : WordLaws) (x : Setting) → FitsSetting x → list_all is_word_byte (setting_value x) ≡ true
-value_bytes laws (SizeOf span) fits = two_bytes (decimal span.low) comma (decimal span.high) refl (field_32 laws span.low fits.0) (field_32 laws span.high fits.1)
-value_bytes laws (CountOf span) fits = two_bytes (decimal span.low) comma (decimal span.high) refl (field_32 laws span.low fits.0) (field_32 laws span.high fits.1)
-value_bytes laws (AgeOf span) fits = two_bytes (decimal span.low) comma (decimal span.high) refl (field_32 laws span.low fits.0) (field_32 laws span.high fits.1)
-value_bytes laws (QuotaOf q) fits = two_bytes (decimal q.bytes) comma (decimal q.reset) refl (decimal_field laws q.bytes fits.0) (field_32 laws q.reset fits.1)
-value_bytes laws (TimeOf time) fits = field_bytes (decimal time) (decimal_field laws time fits)
-value_bytes laws (WeightsOf w) fits =
-    three_bytes (decimal w.size) (decimal w.count) (decimal w.age) (field_16 laws w.size fits.0) (field_16 laws w.count fits.1) (field_16 laws w.age fits.2)
-value_bytes laws (PreferOf prefer) fits = prefer_bytes prefer
-value_bytes laws (MarksOf m) fits =
-    three_bytes (decimal m.high) (decimal m.mid) (decimal m.low) (field_32 laws m.high fits.0) (field_32 laws m.mid fits.1) (field_32 laws m.low fits.2)
-value_bytes laws (FilterOf f) fits =
+value_bytes : (x : Setting) → FitsSetting x → list_all is_word_byte (setting_value x) ≡ true
+value_bytes (SizeOf span) fits = two_bytes (decimal span.low) comma (decimal span.high) refl (field_32 span.low fits.0) (field_32 span.high fits.1)
+value_bytes (CountOf span) fits = two_bytes (decimal span.low) comma (decimal span.high) refl (field_32 span.low fits.0) (field_32 span.high fits.1)
+value_bytes (AgeOf span) fits = two_bytes (decimal span.low) comma (decimal span.high) refl (field_32 span.low fits.0) (field_32 span.high fits.1)
+value_bytes (QuotaOf q) fits = two_bytes (decimal q.bytes) comma (decimal q.reset) refl (decimal_field q.bytes fits.0) (field_32 q.reset fits.1)
+value_bytes (TimeOf time) fits = field_bytes (decimal time) (decimal_field time fits)
+value_bytes (WeightsOf w) fits =
+    three_bytes (decimal w.size) (decimal w.count) (decimal w.age) (field_16 w.size fits.0) (field_16 w.count fits.1) (field_16 w.age fits.2)
+value_bytes (PreferOf prefer) fits = prefer_bytes prefer
+value_bytes (MarksOf m) fits =
+    three_bytes (decimal m.high) (decimal m.mid) (decimal m.low) (field_32 m.high fits.0) (field_32 m.mid fits.1) (field_32 m.low fits.2)
+value_bytes (FilterOf f) fits =
     between (spelled_answer f.allow) colon ((spelled_side f.matching ++ kind_name f.kind) ++ colon ∷ kind_value f.kind) (part_bytes (spelled_answer f.allow) (answer_part f.allow)) refl
     (between (spelled_side f.matching ++ kind_name f.kind) colon (kind_value f.kind) (part_bytes (spelled_side f.matching ++ kind_name f.kind) (name_part f.matching f.kind))
-    refl (part_bytes (kind_value f.kind) (value_part laws f.kind fits)))
+    refl (part_bytes (kind_value f.kind) (value_part f.kind fits)))
 
-setting_word : (laws : WordLaws) (x : Setting) → FitsSetting x → is_plain_word (spelled_setting x) ≡ true
-setting_word laws (SizeOf span) fits = value_bytes laws (SizeOf span) fits
-setting_word laws (CountOf span) fits = value_bytes laws (CountOf span) fits
-setting_word laws (AgeOf span) fits = value_bytes laws (AgeOf span) fits
-setting_word laws (QuotaOf quota) fits = value_bytes laws (QuotaOf quota) fits
-setting_word laws (TimeOf time) fits = value_bytes laws (TimeOf time) fits
-setting_word laws (WeightsOf weights) fits = value_bytes laws (WeightsOf weights) fits
-setting_word laws (PreferOf prefer) fits = value_bytes laws (PreferOf prefer) fits
-setting_word laws (MarksOf marks) fits = value_bytes laws (MarksOf marks) fits
-setting_word laws (FilterOf filter) fits = value_bytes laws (FilterOf filter) fits
+setting_word : (x : Setting) → FitsSetting x → is_plain_word (spelled_setting x) ≡ true
+setting_word (SizeOf span) fits = value_bytes (SizeOf span) fits
+setting_word (CountOf span) fits = value_bytes (CountOf span) fits
+setting_word (AgeOf span) fits = value_bytes (AgeOf span) fits
+setting_word (QuotaOf quota) fits = value_bytes (QuotaOf quota) fits
+setting_word (TimeOf time) fits = value_bytes (TimeOf time) fits
+setting_word (WeightsOf weights) fits = value_bytes (WeightsOf weights) fits
+setting_word (PreferOf prefer) fits = value_bytes (PreferOf prefer) fits
+setting_word (MarksOf marks) fits = value_bytes (MarksOf marks) fits
+setting_word (FilterOf filter) fits = value_bytes (FilterOf filter) fits
 
-setting_words : (laws : WordLaws) (xs : List Setting) → AllByRecursion FitsSetting xs → list_all is_plain_word (map spelled_setting xs) ≡ true
-setting_words laws [] fit = refl
-setting_words laws (x ∷ xs) fit = both_true (setting_word laws x fit.0) (setting_words laws xs fit.1)
+setting_words : (xs : List Setting) → AllByRecursion FitsSetting xs → list_all is_plain_word (map spelled_setting xs) ≡ true
+setting_words [] fit = refl
+setting_words (x ∷ xs) fit = both_true (setting_word x fit.0) (setting_words xs fit.1)
 
 -- the words of a scheme are plain
-pub scheme_words-plain : (laws : WordLaws) (slot : ℕ) (action : Action) (settings : List Setting) → slot < 2 ^ 8 → AllByRecursion FitsSetting settings
+pub scheme_words-plain : (slot : ℕ) (action : Action) (settings : List Setting) → slot < 2 ^ 8 → AllByRecursion FitsSetting settings
     → list_all is_plain_word (scheme_words slot action settings) ≡ true
-scheme_words-plain laws slot action settings small fit =
-    both_true (field_word (decimal slot) (field_8 laws slot small)) (both_true (action_word action) (setting_words laws settings fit))
+scheme_words-plain slot action settings small fit =
+    both_true (field_word (decimal slot) (field_8 slot small)) (both_true (action_word action) (setting_words settings fit))

@@ -5,7 +5,6 @@ use Rattle.std.specs.Borrow.{Bor}
 use Rattle.std.specs.Cmp.Lexicographic.{same_text}
 use Rattle.line_text.specs.Parts.{one_of, parts}
 use Rattle.line_text.proofs.Lemmas.{address-Some, address-spelled_address, after_prefix-Some, digits-decimal, digits-hex, joined-parts_pieces, number-Some, number-decimal, parts-joined, parts_some}
-use Rattle.script_lines.specs.Laws.{WordLaws}
 use Rattle.script_lines.specs.declared.kind.ScriptKind.TheVariants.{Form}
 use Rattle.script_lines.specs.Words.{begins_with, no_word, same_word}
 
@@ -52,17 +51,3 @@ begins_same word other line e = by (parts 32 line) refl
 -- a line that begins with one word begins with no other
 pub begins_other : (word other line : List ℕ) → begins_with word line ≡ true → same_word word other ≡ false → begins_with other line ≡ false
 begins_other word other line e differ = begins_same word other line e ∙ differ
-
--- the laws of words, numbers and addresses, in one record
-pub word_laws : WordLaws
-word_laws = record {
-  parts = joined-parts_pieces;
-  pieces = parts-joined;
-  numbers = number-Some;
-  spelled_numbers = number-decimal;
-  digits = digits-decimal;
-  addresses = address-Some;
-  spelled_addresses = address-spelled_address;
-  hex_digits = digits-hex;
-  prefixes = after_prefix-Some;
-}

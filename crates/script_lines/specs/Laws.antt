@@ -10,7 +10,6 @@ use Rattle.damon_types.specs.declared.space.TheConstants.{PAGE_SIZE}
 use Rattle.damon_types.specs.declared.space.Target.{Target}
 use Rattle.damon_types.specs.Space.{page_of}
 use Rattle.line_text.specs.Address.{spelled_address}
-use Rattle.line_text.specs.Laws.{PutsPartsTogether, ReadsDecimal, ReadsOnlyDecimal, ReadsOnlySpelledAddress, ReadsSpelledAddress, SpellsDigits, SpellsHexDigits, StripsOnlyFront, TakesApartPieces}
 use Rattle.live_commit.specs.Commit.{CommitValue}
 use Rattle.script_lines.specs.declared.part.Part.{Part}
 use Rattle.script_lines.specs.declared.part.Part.TheVariants.{Attrs, Range, Slot, Metric, Cost}
@@ -25,18 +24,6 @@ use Rattle.script_lines.specs.Settings.{AreAfter, default_scheme, settled}
 use Rattle.script_lines.specs.Words.{alone}
 use Rattle.damon_types.specs.Actions.{action_name}
 use Rattle.script_lines.specs.Spelling.{spaced, spelled_attrs, spelled_cost, spelled_range, spelled_scheme}
-
--- what the laws of `line_text` say of words, numbers and addresses
-pub record WordLaws : Type 0 where
-  pub parts : PutsPartsTogether
-  pub pieces : TakesApartPieces
-  pub numbers : ReadsOnlyDecimal
-  pub spelled_numbers : ReadsDecimal
-  pub digits : SpellsDigits
-  pub addresses : ReadsOnlySpelledAddress
-  pub spelled_addresses : ReadsSpelledAddress
-  pub hex_digits : SpellsHexDigits
-  pub prefixes : StripsOnlyFront
 
 -- text that a value is read from is the spelling of that value
 abbrev pub ReadsOnly : {T A : Type 0} → (T → Result A ScriptKind) → (A → T) → Type 0

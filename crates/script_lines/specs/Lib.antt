@@ -18,8 +18,6 @@ pub mod Fits
 pub mod Laws
 pub mod SchemeLine
 pub mod ReadBack
-pub mod Within
 pub mod Touches
 pub mod WrittenLine
 pub mod KeysText
-pub mod WriteBack

@@ -14,8 +14,6 @@ ghost use Rattle.script_lines.specs.Laws.{NamesActions, ReadsOnly, ReadsOnlyComm
 ghost use Rattle.script_lines.specs.ReadBack.{LinesReadBack};
 ghost use Rattle.script_lines.specs.SchemeLine.{SchemesAreSaid};
 ghost use Rattle.script_lines.specs.Spelling.{spelled_attrs, spelled_range, spelled_setting, spelled_target};
-ghost use Rattle.script_lines.specs.Within.{LinesAreWithin};
-ghost use Rattle.script_lines.specs.WriteBack.{ChangesAreReadBack};
 
 /// The words after `attrs` and `range` that are accepted, in a setup and in a commit, are the
 /// spelling of what is read from them.
@@ -69,14 +67,4 @@ pub fn body_lines_are_spelled()
 /// where it says that command, and a line of a commit likewise.
 pub fn spelled_lines_are_read()
     ensures lines { LinesReadBack }
-{}
-
-/// What is read from a line of a setup that is accepted is within its limits, and so are the passes.
-pub fn accepted_lines_are_within()
-    ensures within { LinesAreWithin }
-{}
-
-/// The line that is written of a slot change says that change.
-pub fn written_changes_are_read_back()
-    ensures changes { ChangesAreReadBack }
 {}

@@ -37,9 +37,8 @@ pub use body::read_command;
 pub use command::{Command, MAX_STEPS};
 pub use kind::ScriptKind;
 pub use laws::{
-    accepted_lines_are_within, body_lines_are_spelled, fields_are_spelled, schemes_are_said,
-    schemes_are_spelled, setup_lines_are_spelled, spelled_lines_are_read,
-    written_changes_are_read_back,
+    body_lines_are_spelled, fields_are_spelled, schemes_are_said, schemes_are_spelled,
+    setup_lines_are_spelled, spelled_lines_are_read,
 };
 pub use part::{Part, read_part, wants_slot};
 pub use ranges::leading_range;
