@@ -23,12 +23,6 @@ trace_found [] worker t here = absurd (cc here)
 trace_found (l ∷ ls) zero t here = let e : l ≡ t = cc here in ap (λ (k : Listed ℕ). k.list) e
 trace_found (l ∷ ls) (suc worker) t here = trace_found ls worker t here
 
--- the next trace of several
-pub traces_next : (lists : List (Listed ℕ)) (k : ℕ) (t : Listed ℕ) → slice_get lists k ≡ Some t → take (k + 1) (traces_of lists) ≡ take k (traces_of lists) ++ t.list ∷ []
-traces_next [] k t here = absurd (cc here)
-traces_next (l ∷ ls) zero t here = let e : l ≡ t = cc here in ap (λ (x : Listed ℕ). x.list ∷ []) e
-traces_next (l ∷ ls) (suc k) t here = let more : suc k + 1 ≡ suc (k + 1) = omega arith in ap (λ n. take n (traces_of (l ∷ ls))) more ∙ ap (λ xs. l.list ∷ xs) (traces_next ls k t here)
-
 -- what holds of each item holds of one that is found
 pub all_found : {A : Type 0} (P : A → Type 0) (xs : List A) (k : ℕ) (x : A) → All P xs → slice_get xs k ≡ Some x → P x
 all_found P [] k x all here = absurd (cc here)

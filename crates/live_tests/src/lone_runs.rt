@@ -2,7 +2,7 @@
 ghost use Rattle.std.specs.Prelude.{◌≤◌, length};
 
 use crate::texts::ONE_PAGE;
-use damon_control::{MAX_BYTES, live_scripts_are_sound, read_live};
+use damon_control::{MAX_BYTES, read_live};
 use damon_core::Monitor;
 use damon_journal::{Journal, journal_text};
 use damon_live::{AloneRun, MAX_RESULTS, run_alone};
@@ -36,10 +36,10 @@ end ticks=1 rows=1 checks=1 hits=0
 
 // The text of the journal of a run; none where the script asks for more passes than a journal keeps, or is
 // no live script.
+#[tactic(auto, using(damon_control::proofs::Lemmas::live_scripts_sound))]
 fn text_of_run(alloc: Global, script: &[u8]) -> Result<Option<Vec<u8>>, AllocError>
     requires { length script.now ≤ MAX_BYTES }
 {
-    live_scripts_are_sound();
     let Ok(script) = read_live(alloc, script) else {
         return Ok(None);
     };

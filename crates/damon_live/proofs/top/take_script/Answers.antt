@@ -2,6 +2,7 @@ use Rattle.std.proofs.Common.{◌≡◌, Err, ap, sym, ◌∙◌, subst}
 use Rattle.std.proofs.lemmas.Result.{err_from_is_err_and}
 use Rattle.damon_control.specs.LiveView.{live_said}
 use Rattle.damon_control.specs.Script.{live_of}
+use Rattle.damon_control.proofs.Lemmas.{live_scripts_sound}
 use Rattle.text_io.specs.declared.input.TheConstants.{INPUT_LIMIT}
 use Rattle.text_io.proofs.Lemmas.{EndsAtFault-error, EndsAtFault-not}
 use Rattle.damon_live.proofs.Ending.{not_read, not_spelled, too_many}
@@ -50,3 +51,6 @@ returns-clause-taken g c =
       reads = EndsAtFault-not (λ e. cc e) (λ no. no) read.reads;
       calls = read.calls;
     }
+
+pub returns-clause-limits : goal.returns-clause-limits
+returns-clause-limits g c = (live_scripts_sound _ _ c.in_ok-script.ensures.script).limits
