@@ -1,7 +1,7 @@
 //! All of a journal in one place: in memory, as a text, and its check; and how a run of a program ended.
 #![tactic(auto)]
 
-pub use journal_check::{Replayer, rejected_texts_are_unlawful, verify};
+pub use journal_check::{Replayer, verify};
 pub use journal_text::{
     TextParts, journal_text, lawful_journals_are_read, one_pass_by_hand, read_journals_are_lawful,
 };
