@@ -3,7 +3,7 @@
 
 pub use journal_check::{Replayer, verify};
 pub use journal_text::{
-    TextParts, journal_text, lawful_journals_are_read, one_pass_by_hand, read_journals_are_lawful,
+    TextParts, journal_text, lawful_journals_are_read, read_journals_are_lawful,
 };
 pub use run_journal::{
     CallAnswer, Entry, Journal, Lawful, Receipt, ReceiptList, Receipts, VerifyFault,

@@ -6,7 +6,7 @@ use Rattle.rand_core.specs.Steps.{stream_of}
 use Rattle.rand_core.specs.Stream.{next_u32}
 use Rattle.damon_core.specs.Slots.{slot_count}
 use Rattle.damon_control.specs.Live.{ShowCall}
-use Rattle.journal_text.specs.Examples.{one_page, one_pass, two_receipts}
+use Rattle.journal_text.proofs.Examples.{one_page, one_pass, two_receipts}
 use Rattle.journal_text.specs.Reading.{read_journal}
 use Rattle.journal_text.specs.Text.{journal_text}
 
