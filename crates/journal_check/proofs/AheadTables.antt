@@ -1,7 +1,7 @@
 -- Tables by page and by receipt, which passes set.
 use Rattle.std.proofs.Common.{◌≡◌, ℕ, zero, suc, ◌+◌, ◌≤◌, ◌<◌, ◌==◌, ◌&&◌, ◌||◌, Bool, true, false, List, [], ◌∷◌, length, drop, map, get_or, refl, sym, ap, subst, ◌∙◌, arith}
 use Rattle.std.proofs.lemmas.Bool.Decides.{nat_tests}
-use Rattle.std.proofs.lemmas.List.{drop-map, drop_all, drop_more, get_or-map, get_or-set_other, length-map, length-replicate, length-set}
+use Rattle.std.proofs.lemmas.List.{drop_all, drop_more, get_or-map, get_or-set_other, length-map, length-replicate, length-set}
 use Rattle.std.proofs.lemmas.List.FromFn.{fill_by_all}
 use Rattle.std.proofs.lemmas.Grind.{get_or-set_at}
 use Rattle.std.specs.Prelude.{◌≢◌, All, if◌then◌else◌, slice_get, slice_set, Some, replicate}
@@ -50,20 +50,6 @@ got (y ∷ ys) (suc i) x d is = got ys i x d is
 pub record SetsLeft (pages : List ℕ) (v : Bool) (before now : List Bool) (left : List ℕ) : Type 0 where
   pub each : (page : ℕ) → page < length before → (if is_picked left page then v else get_or now page false) ≡ (if is_picked pages page then v else get_or before page false)
   pub len : length now ≡ length before
-
--- one is set
-pub sets_next : (xs : List (ℕ × Receipt)) (indexes : List ℕ) (v : Bool) (before now : List Bool) (k i p : ℕ) → k < length indexes → i ≡ get_or indexes k 0 → p ≡ page_at xs i → p < length now
-    → SetsLeft (map (page_at xs) indexes) v before now (map (page_at xs) (drop k indexes)) → SetsLeft (map (page_at xs) indexes) v before (slice_set now p v) (map (page_at xs) (drop (k + 1) indexes))
-sets_next xs indexes v before now k i p below index page within left = record {
-  each = λ page inside.
-      ap (λ l. if is_picked l page then v else get_or (slice_set now p v) page false) (sym (drop-map (page_at xs) (k + 1) indexes))
-      ∙ (set_next (map (page_at xs) indexes) k p now v page (omega (arith, below, length-map indexes (page_at xs))) here within
-      ∙ (ap (λ l. if is_picked l page then v else get_or now page false) (drop-map (page_at xs) k indexes) ∙ left.each page inside));
-  len = length-set now p v ∙ left.len;
-}
-  where
-    here : get_or (map (page_at xs) indexes) k p ≡ p
-    here = get_or-map (page_at xs) indexes k 0 p below ∙ sym (page ∙ ap (page_at xs) index)
 
 -- all are set
 pub sets_all : (tag : ℕ) (xs : List (ℕ × Receipt)) (indexes : List ℕ) (v : Bool) (before now : List Bool) (k page : ℕ) → AreOfTag tag xs indexes → length indexes ≤ k → page < length before

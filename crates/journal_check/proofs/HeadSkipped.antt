@@ -1,10 +1,9 @@
 -- The lines of a head are taken one after another.
-use Rattle.std.proofs.Common.{◌≡◌, ℕ, ◌+◌, true, List, [], ◌∷◌, ◌++◌, codes, refl, sym, ap, ◌∙◌, append_assoc, length-append, arith}
-use Rattle.script_lines.specs.Words.{same_word}
+use Rattle.std.proofs.Common.{◌≡◌, ℕ, ◌+◌, List, [], ◌∷◌, ◌++◌, refl, sym, ap, ◌∙◌, append_assoc, length-append, arith}
 use Rattle.journal_check.specs.declared.journal_lines.JournalLines.{JournalLines}
-use Rattle.journal_check.specs.EndsOfText.{AreAllOthers, AreTaken, AreTakenWithBegin, IsOther}
+use Rattle.journal_check.specs.EndsOfText.{AreAllOthers, AreTaken, IsOther}
 use Rattle.journal_check.specs.LinesLeft.{lines_left}
-use Rattle.journal_text.proofs.Lemmas.{both_all, is_line}
+use Rattle.journal_text.proofs.Lemmas.{both_all}
 
 -- no line was taken yet
 pub none_taken : (lines : JournalLines) → AreTaken [] lines lines
@@ -17,15 +16,6 @@ more_taken old before after front line taken split number other = record {
   left = taken.left ∙ ap (λ ps. front ++ ps) split ∙ sym (append_assoc front (line ∷ []) (lines_left after));
   number = omega (arith, taken.number, number, length-append front (line ∷ []));
   others = both_all IsOther front (line ∷ []) taken.others (other, tt);
-}
-
--- the line that was taken is `begin`
-pub begin_taken : (old before after : JournalLines) (front : List (List ℕ)) (line : List ℕ) → AreTaken front old before → lines_left before ≡ line ∷ lines_left after
-    → after.taken ≡ before.taken + 1 → same_word line (codes "begin") ≡ true → AreTakenWithBegin front old after
-begin_taken old before after front line taken split number is = record {
-  left = taken.left ∙ ap (λ ps. front ++ ps) (split ∙ ap (λ l. l ∷ lines_left after) (is_line line (codes "begin") is));
-  number = omega (arith, taken.number, number);
-  others = taken.others;
 }
 
 -- there are no more lines

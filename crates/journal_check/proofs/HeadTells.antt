@@ -7,31 +7,26 @@ use Rattle.std.specs.Option.{ok_or}
 use Rattle.damon_types.specs.declared.range.RangeSpec.{RangeSpec}
 use Rattle.damon_types.specs.declared.scheme.SlotChange.{SlotChange}
 use Rattle.damon_types.specs.declared.space.Target.{Target}
-use Rattle.line_text.specs.Laws.{PutsPartsTogether, TakesApartPieces}
 use Rattle.line_text.specs.Parts.{joined, parts}
+use Rattle.line_text.proofs.Lemmas.{joined-parts, parts_clean, parts_some}
 use Rattle.script_lines.specs.declared.kind.ScriptKind.{ScriptKind}
 use Rattle.script_lines.specs.declared.kind.ScriptKind.TheVariants.{After, Header, Word}
 use Rattle.script_lines.specs.declared.setup.Frame.{Frame}
 use Rattle.script_lines.specs.Head.{attrs_line, cap_line, range_line, seed_line, target_line, unit_line}
-use Rattle.script_lines.specs.Laws.{ReadsOnlyWords}
 use Rattle.script_lines.specs.Lines.{lines_text}
 use Rattle.script_lines.specs.Refusal.{◌>>=◌}
 use Rattle.script_lines.specs.Words.{alone, begins_with, same_word}
-use Rattle.damon_control.specs.declared.fault.ReadFail.{ReadFail}
-use Rattle.damon_control.specs.declared.fault.ReadFail.TheVariants.{Script, Memory}
-use Rattle.damon_control.specs.declared.fault.ScriptFault.{ScriptFault}
+use Rattle.script_lines.proofs.Lemmas.{alone-Ok, joined_before, parts_before}
 use Rattle.damon_control.specs.declared.grammar.Grammar.TheVariants.{OfJournal}
-use Rattle.damon_control.specs.declared.journal_head.JournalHead.{JournalHead}
 use Rattle.damon_control.specs.JournalHead.{head_at}
-use Rattle.damon_control.specs.Left.{FaultOf}
 use Rattle.damon_control.specs.Script.{AtAttrs, AtCap, AtEnd, AtHeader, AtRanges, AtSchemes, AtSeed, AtTargets, AtUnit, HeadValue, InBody, InCommit, Place, after_ranges, after_schemes, after_setup, at, at_text_end, head_of, place_after, reads, scheme_line_in, version_said}
 use Rattle.journal_check.specs.declared.journal_lines.JournalLines.{JournalLines}
-use Rattle.journal_check.specs.EndsOfText.{IsOther, Tells, head_fault, said_after_head}
-use Rattle.journal_check.specs.LinesLeft.{IsFault, lines_left}
+use Rattle.journal_check.specs.EndsOfText.{IsOther, Tells, said_after_head}
+use Rattle.journal_check.specs.LinesLeft.{lines_left}
 use Rattle.journal_text.specs.Place.{InEntries, InHead, JournalPlace, JournalRead, after_head, uncalled}
 use Rattle.journal_text.specs.Reading.{after_head_line, read_journal, said_at_end, said_from}
 use Rattle.run_journal.specs.Room.{nothing_said}
-use Rattle.journal_text.proofs.Lemmas.{Pieces, bind-Ok, either_way, joined_before, parts-some, parts_before, pieces_front, head_cases}
+use Rattle.journal_text.proofs.Lemmas.{Pieces, bind-Ok, either_way, pieces_front, head_cases}
 
 -- ---- the line `begin` and others
 
@@ -87,9 +82,9 @@ not_there (Err kind) to h other e = absurd cc
 not_there (Ok x) to h other e = let clash : false ≡ true = sym (other x) ∙ ap ends_there e in absurd cc
 
 -- only `begin` ends the head
-module _ (words : ReadsOnlyWords) (line : List ℕ) (h : HeadValue) where
+module _ (line : List ℕ) (h : HeadValue) where
   at_setup : (f : Frame) (targets : List Target) (ranges : List RangeSpec) (slots : List SlotChange) → after_setup OfJournal f targets ranges slots line ≡ Ok (AtEnd h) → line ≡ begin
-  at_setup f targets ranges slots e = words begin line (bind-Ok (alone begin line) (λ _. Ok (AtEnd (head_at f targets ranges slots))) (AtEnd h) e).1
+  at_setup f targets ranges slots e = alone-Ok begin line (bind-Ok (alone begin line) (λ _. Ok (AtEnd (head_at f targets ranges slots))) (AtEnd h) e).1
 
   at_schemes : (f : Frame) (targets : List Target) (ranges : List RangeSpec) (slots : List SlotChange) → after_schemes OfJournal f targets ranges slots line ≡ Ok (AtEnd h) → line ≡ begin
   at_schemes f targets ranges slots e =
@@ -118,13 +113,13 @@ module _ (words : ReadsOnlyWords) (line : List ℕ) (h : HeadValue) where
   only_begin_ends (AtEnd s) e = absurd cc
 
 -- after any other line that is read the head goes on
-goes_on : ReadsOnlyWords → (p q : Place OfJournal) (line : List ℕ) → IsOther line → place_after OfJournal p line ≡ Ok q → after_head q ≡ InHead q
-goes_on words p q line other e = by (head_cases q)
+goes_on : (p q : Place OfJournal) (line : List ℕ) → IsOther line → place_after OfJournal p line ≡ Ok q → after_head q ≡ InHead q
+goes_on p q line other e = by (head_cases q)
   where
     by : ((h : HeadValue) × (q ≡ AtEnd h)) ⊎ (after_head q ≡ InHead q) → after_head q ≡ InHead q
     by (inl (h, is)) =
         let ends : place_after OfJournal p line ≡ Ok (AtEnd h) = e ∙ ap (λ x. Ok x) is in
-        let same : line ≡ begin = only_begin_ends words line h p ends in
+        let same : line ≡ begin = only_begin_ends line h p ends in
         let clash : true ≡ false = ap (λ l. same_word l begin) (sym same) ∙ other in
         absurd cc
     by (inr is) = is
@@ -168,15 +163,15 @@ entries_follow n m p q more is e = by (begin_ends p)
     by (inr (kind, fails)) = not_both (place_after OfJournal p begin) q kind e fails
 
 -- the lines of a head up to the first `begin`
-begin_tells : ReadsOnlyWords → (n m : ℕ) (p : Place OfJournal) (front more : List (List ℕ)) → 0 < length more → AllByRecursion IsOther front → m ≡ n + length front + 1
+begin_tells : (n m : ℕ) (p : Place OfJournal) (front more : List (List ℕ)) → 0 < length more → AllByRecursion IsOther front → m ≡ n + length front + 1
     → Tells (reads OfJournal n p (front ++ begin ∷ [] ∷ [])) (after_begin m more) (said_from n (InHead p) (front ++ begin ∷ more))
-begin_tells words n m p [] more some others is = line_tells n p begin ([] ∷ []) more (after_begin m more) (omega arith) some (λ q e. entries_follow n m p q more (omega arith) e)
-begin_tells words n m p (line ∷ front) more some others is =
+begin_tells n m p [] more some others is = line_tells n p begin ([] ∷ []) more (after_begin m more) (omega arith) some (λ q e. entries_follow n m p q more (omega arith) e)
+begin_tells n m p (line ∷ front) more some others is =
     let pieces : List (List ℕ) = front ++ begin ∷ [] ∷ [] in
     let lines : List (List ℕ) = front ++ begin ∷ more in
     line_tells n p line pieces lines (after_begin m more) (omega (arith, length-append front (begin ∷ [] ∷ []))) (omega (arith, length-append front (begin ∷ more))) (λ q e.
-    subst (λ (place : JournalPlace). Tells (reads OfJournal (n + 1) q pieces) (after_begin m more) (said_from (n + 1) place lines)) (sym (goes_on words p q line others.0 e))
-    (begin_tells words (n + 1) m q front more some others.1 (omega arith)))
+    subst (λ (place : JournalPlace). Tells (reads OfJournal (n + 1) q pieces) (after_begin m more) (said_from (n + 1) place lines)) (sym (goes_on p q line others.0 e))
+    (begin_tells (n + 1) m q front more some others.1 (omega arith)))
 
 -- a head that has not ended is cut, and so is the text
 cut_tells : (n : ℕ) (p : Place OfJournal) (last : List ℕ) (after : HeadValue → Result JournalRead ℕ) → after_head p ≡ InHead p → Tells (at_text_end OfJournal n p last) after (said_at_end n (InHead p) last)
@@ -193,15 +188,15 @@ cut_tells n (InCommit b commit) last after goes = absurd b
 cut_tells n (AtEnd h) last after goes = absurd cc
 
 -- the lines of a text without `begin`
-others_tell : ReadsOnlyWords → (n : ℕ) (p : Place OfJournal) (front : List (List ℕ)) (last : List ℕ) (after : HeadValue → Result JournalRead ℕ) → AllByRecursion IsOther front → after_head p ≡ InHead p
+others_tell : (n : ℕ) (p : Place OfJournal) (front : List (List ℕ)) (last : List ℕ) (after : HeadValue → Result JournalRead ℕ) → AllByRecursion IsOther front → after_head p ≡ InHead p
     → Tells (reads OfJournal n p (front ++ last ∷ [])) after (said_from n (InHead p) (front ++ last ∷ []))
-others_tell words n p [] last after others goes = cut_tells n p last after goes
-others_tell words n p (line ∷ front) last after others goes =
+others_tell n p [] last after others goes = cut_tells n p last after goes
+others_tell n p (line ∷ front) last after others goes =
     let lines : List (List ℕ) = front ++ last ∷ [] in
     let some : 0 < length lines = omega (arith, length-append front (last ∷ [])) in
     line_tells n p line lines lines after some some (λ q e.
-    let on : after_head q ≡ InHead q = goes_on words p q line others.0 e in
-    subst (λ (place : JournalPlace). Tells (reads OfJournal (n + 1) q lines) after (said_from (n + 1) place lines)) (sym on) (others_tell words (n + 1) q front last after others.1 on))
+    let on : after_head q ≡ InHead q = goes_on p q line others.0 e in
+    subst (λ (place : JournalPlace). Tells (reads OfJournal (n + 1) q lines) after (said_from (n + 1) place lines)) (sym on) (others_tell (n + 1) q front last after others.1 on))
 
 -- ---- the text of the head
 
@@ -210,17 +205,17 @@ pub record HasHead (bytes rest : List ℕ) (front : List (List ℕ)) : Type 0 wh
   pub whole : bytes ≡ lines_text (front ++ begin ∷ []) ++ rest
   pub pieces : parts 10 (lines_text (front ++ begin ∷ [])) ≡ front ++ begin ∷ [] ∷ []
 
-pub has_head : PutsPartsTogether → TakesApartPieces → (bytes rest : List ℕ) (front : List (List ℕ)) → parts 10 bytes ≡ front ++ begin ∷ parts 10 rest → HasHead bytes rest front
-has_head together apart bytes rest front split =
+pub has_head : (bytes rest : List ℕ) (front : List (List ℕ)) → parts 10 bytes ≡ front ++ begin ∷ parts 10 rest → HasHead bytes rest front
+has_head bytes rest front split =
     let lines : List (List ℕ) = front ++ begin ∷ [] in
     let none : List ℕ = [] in
     let seam : front ++ begin ∷ parts 10 rest ≡ lines ++ parts 10 rest = sym (append_assoc front (begin ∷ []) (parts 10 rest)) in
-    let each : Pieces lines = pieces_front lines (parts 10 rest) (subst Pieces (split ∙ seam) (together 10 bytes).1) in
+    let each : Pieces lines = pieces_front lines (parts 10 rest) (subst Pieces (split ∙ seam) (parts_clean 10 bytes)) in
     record {
       whole =
-          sym (together 10 bytes).0 ∙ ap (joined 10) (split ∙ seam) ∙ joined_before lines (parts 10 rest) (parts-some 10 rest)
-          ∙ ap (λ t. lines_text lines ++ t) (together 10 rest).0;
-      pieces = ap (parts 10) (sym (append-nil (lines_text lines))) ∙ parts_before apart together lines none each ∙ append_assoc front (begin ∷ []) ([] ∷ []);
+          sym (joined-parts 10 bytes) ∙ ap (joined 10) (split ∙ seam) ∙ joined_before lines (parts 10 rest) (parts_some 10 rest)
+          ∙ ap (λ t. lines_text lines ++ t) (joined-parts 10 rest);
+      pieces = ap (parts 10) (sym (append-nil (lines_text lines))) ∙ parts_before lines none each ∙ append_assoc front (begin ∷ []) ([] ∷ []);
     }
 
 -- what a text begins with, before its rest
@@ -232,28 +227,18 @@ taken_front bytes front rest is =
 -- ---- the whole text
 
 -- a text with a line `begin`
-pub text_tells : ReadsOnlyWords → PutsPartsTogether → TakesApartPieces → (bytes head : List ℕ) (lines : JournalLines) (front : List (List ℕ)) → parts 10 bytes ≡ front ++ begin ∷ lines_left lines
+pub text_tells : (bytes head : List ℕ) (lines : JournalLines) (front : List (List ℕ)) → parts 10 bytes ≡ front ++ begin ∷ lines_left lines
     → AllByRecursion IsOther front → lines.taken ≡ length front + 1 → head ≡ lines_text (front ++ begin ∷ []) → Tells (head_of head) (said_after_head lines) (read_journal bytes)
-text_tells words together apart bytes head lines front split others number is =
-    let pieces : parts 10 head ≡ front ++ begin ∷ [] ∷ [] = ap (parts 10) is ∙ (has_head together apart bytes lines.rest.now front split).pieces in
+text_tells bytes head lines front split others number is =
+    let pieces : parts 10 head ≡ front ++ begin ∷ [] ∷ [] = ap (parts 10) is ∙ (has_head bytes lines.rest.now front split).pieces in
     let told : Tells (reads OfJournal 1 AtHeader (front ++ begin ∷ [] ∷ [])) (said_after_head lines) (said_from 1 (InHead AtHeader) (front ++ begin ∷ lines_left lines)) =
-    begin_tells words 1 (lines.taken + 1) AtHeader front (lines_left lines) (parts-some 10 lines.rest.now) others (omega arith) in
+    begin_tells 1 (lines.taken + 1) AtHeader front (lines_left lines) (parts_some 10 lines.rest.now) others (omega arith) in
     let whole : Tells (reads OfJournal 1 AtHeader (front ++ begin ∷ [] ∷ [])) (said_after_head lines) (read_journal bytes) =
     subst (λ (ps : List (List ℕ)). Tells (reads OfJournal 1 AtHeader (front ++ begin ∷ [] ∷ [])) (said_after_head lines) (said_from 1 (InHead AtHeader) ps)) (sym split) told in
     subst (λ (ps : List (List ℕ)). Tells (reads OfJournal 1 AtHeader ps) (said_after_head lines) (read_journal bytes)) (sym pieces) whole
 
 -- a text without one
-pub others_text_tells : ReadsOnlyWords → (bytes last : List ℕ) (front : List (List ℕ)) (after : HeadValue → Result JournalRead ℕ) → parts 10 bytes ≡ front ++ last ∷ [] → AllByRecursion IsOther front
+pub others_text_tells : (bytes last : List ℕ) (front : List (List ℕ)) (after : HeadValue → Result JournalRead ℕ) → parts 10 bytes ≡ front ++ last ∷ [] → AllByRecursion IsOther front
     → Tells (head_of bytes) after (read_journal bytes)
-others_text_tells words bytes last front after split others =
-    subst (λ (ps : List (List ℕ)). Tells (reads OfJournal 1 AtHeader ps) after (said_from 1 (InHead AtHeader) ps)) (sym split) (others_tell words 1 AtHeader front last after others refl)
-
--- ---- what was told
-
-pub told_head : (r : Result HeadValue ScriptFault) (after : HeadValue → Result JournalRead ℕ) (said : Result JournalRead ℕ) (h : HeadValue) → Tells r after said → r ≡ Ok h → said ≡ after h
-told_head r after said h told is = subst (λ (x : Result HeadValue ScriptFault). Tells x after said) is told
-
-pub told_fault : (fail : ReadFail) (r : Result HeadValue ScriptFault) (after : HeadValue → Result JournalRead ℕ) (said : Result JournalRead ℕ) → Tells r after said
-    → FaultOf {T = JournalHead} {V = HeadValue} (Err fail) r → IsFault (head_fault fail) said
-told_fault (Script fault) r after said told is = subst (λ (x : Result HeadValue ScriptFault). Tells x after said) is told
-told_fault Memory r after said told is = tt
+others_text_tells bytes last front after split others =
+    subst (λ (ps : List (List ℕ)). Tells (reads OfJournal 1 AtHeader ps) after (said_from 1 (InHead AtHeader) ps)) (sym split) (others_tell 1 AtHeader front last after others refl)

@@ -1,26 +1,26 @@
-pub mod OpenHits
-pub mod Lefts
-pub mod LastLines
-pub mod HeadTells
-pub mod HeadSkipped
-pub mod AllSeen
-pub mod AheadLemmas
-pub mod SeenAfter
-pub mod SeenTaken
-pub mod SeenFront
-pub mod SeenColumns
-pub mod TagOrder
-pub mod AheadTables
-pub mod LastSeen
-pub mod NamedSteps
-pub mod EntriesTaken
-pub mod WrittenBefore
-pub mod BitsRead
-pub mod BlockTaken
-pub mod RangeTaken
-pub mod CallsTaken
-pub mod EntriesStep
-pub mod Judged
-pub mod KeptEntries
-pub mod OnWay
-pub mod Starting
+pub mod Lemmas
+mod OpenHits
+mod Lefts
+mod LastLines
+mod HeadTells
+mod HeadSkipped
+mod AllSeen
+mod AheadLemmas
+mod SeenAfter
+mod SeenTaken
+mod SeenFront
+mod SeenColumns
+mod TagOrder
+mod AheadTables
+mod LastSeen
+mod EntriesTaken
+mod WrittenBefore
+mod BitsRead
+mod BlockTaken
+mod RangeTaken
+mod CallsTaken
+mod EntriesStep
+mod Judged
+mod KeptEntries
+mod OnWay
+mod Starting

@@ -44,10 +44,6 @@ all_accepted done all [] none = sym (append-nil (all_of all))
 all_accepted done all (x ∷ xs) none =
     accepted_first done all x xs (λ few e. all_accepted done (with_receipt all x.0 x.1) xs e) (may_be_seen done all x.0 x.1) refl none
 
--- where none is refused, the receipts of all workers are these
-pub all_are_accepted : (done : List Step) (xs : List (ℕ × Receipt)) → first_refused done [] xs ≡ None → all_of (seen_after [] xs) ≡ receipts_of xs
-all_are_accepted done xs none = all_accepted done [] xs none
-
 -- ---- the receipts of one worker
 
 padded_at : (all : List (List Receipt)) (n w : ℕ) → slice_index_or (all ++ replicate n []) w [] ≡ slice_index_or all w []

@@ -1,15 +1,15 @@
 -- The line of a receipt at the front of a text.
-use Rattle.std.proofs.Common.{◌≡◌, ℕ, List, [], ◌∷◌, ◌++◌, codes, decimal, append_assoc, sym, ap, ◌∙◌}
+use Rattle.std.proofs.Common.{◌≡◌, ℕ, List, ◌∷◌, ◌++◌, codes, decimal, append_assoc, sym, ap, ◌∙◌}
 use Rattle.damon_types.specs.declared.space.Target.{Target}
 use Rattle.damon_types.specs.Space.{place_of}
 use Rattle.line_text.specs.Address.{spelled_address}
 use Rattle.line_text.specs.Parts.{parts}
-use Rattle.script_lines.specs.Laws.{WordLaws}
+use Rattle.line_text.proofs.Lemmas.{parts_first}
 use Rattle.run_journal.specs.declared.entry.Receipt.{Receipt}
 use Rattle.journal_check.specs.Ahead.{in_front_of, seen_ahead}
-use Rattle.journal_check.specs.SeenFront.{ReadsLeadingSeen}
+use Rattle.journal_check.specs.SeenFront.{BeginsWithSeen}
 use Rattle.journal_text.specs.Spelled.{spelled_seen}
-use Rattle.journal_text.proofs.Lemmas.{no_pieces, parts_before, piece_first, seen_piece, seen_back}
+use Rattle.journal_text.proofs.Lemmas.{seen_piece, seen_back}
 use Rattle.journal_check.proofs.SeenTaken.{line_says}
 
 -- what follows a number in a text follows it in a longer text too
@@ -38,10 +38,10 @@ seen_front space worker r text first second third rest one two three four =
     ∙ behind (codes "seen ") worker (codes " " ++ (decimal target ++ (codes " " ++ address))) end
 
 -- a text says the receipt of its first line, and then those of the rest
-pub leading_seen_is_read : WordLaws → ReadsLeadingSeen
-leading_seen_is_read laws space text seen rest begins =
+pub leading_seen_is_read : (space : List Target) (text : List ℕ) (seen : ℕ × Receipt) (rest : List ℕ) → BeginsWithSeen space text seen rest
+    → seen_ahead space (parts 10 text) ≡ seen ∷ seen_ahead space (parts 10 rest)
+leading_seen_is_read space text seen rest begins =
     let line = spelled_seen space seen.0 seen.1 in
-    let piece = piece_first line [] (seen_piece laws space seen.0 seen.1 begins.place begins.worker begins.tag) no_pieces in
-    let split = ap (parts 10) begins.whole ∙ ap (parts 10) (sym (append_assoc line (10 ∷ []) rest)) ∙ parts_before laws.pieces laws.parts (line ∷ []) rest piece in
+    let split = ap (parts 10) begins.whole ∙ parts_first 10 line rest (seen_piece space seen.0 seen.1 begins.place begins.worker begins.tag) in
     ap (seen_ahead space) split ∙ line_says space line rest
-    ∙ ap (in_front_of (seen_ahead space (parts 10 rest))) (seen_back laws space seen.0 seen.1 begins.place begins.worker begins.tag)
+    ∙ ap (in_front_of (seen_ahead space (parts 10 rest))) (seen_back space seen.0 seen.1 begins.place begins.worker begins.tag)

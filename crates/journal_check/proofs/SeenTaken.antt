@@ -1,21 +1,17 @@
 -- The lines of receipts, one after another.
-use Rattle.std.proofs.Common.{◌≡◌, ◌<◌, ◌==◌, ℕ, suc, Some, None, IfSome, List, [], ◌∷◌, length, refl, arith}
-use Rattle.std.proofs.lemmas.List.Splits.{length-slice_split}
+use Rattle.std.proofs.Common.{◌≡◌, ◌<◌, ℕ, suc, Some, None, IfSome, List, [], ◌∷◌, length, refl, arith}
 use Rattle.std.specs.Prelude.{Option}
 use Rattle.std.specs.Borrow.{Bor}
 use Rattle.damon_types.specs.declared.space.Target.{Target}
 use Rattle.line_text.specs.Parts.{parts}
+use Rattle.line_text.proofs.Lemmas.{parts_some}
 use Rattle.journal_check.specs.Ahead.{in_front_of, seen_ahead}
 use Rattle.journal_text.specs.SeenLine.{seen_line}
-
--- the parts of a text are some
-parts-some : (bytes : List ℕ) → 0 < length (parts 10 bytes)
-parts-some bytes = omega (arith, length-slice_split (λ c. c == 10) bytes)
 
 -- a line that an LF ends says its receipt
 pub line_says : (space : List Target) (line rest : List ℕ)
     → seen_ahead space (line ∷ parts 10 rest) ≡ in_front_of (seen_ahead space (parts 10 rest)) (seen_line space line)
-line_says space line rest = by (parts 10 rest) (parts-some rest)
+line_says space line rest = by (parts 10 rest) (parts_some 10 rest)
   where
     by : (lines : List (List ℕ)) → 0 < length lines → seen_ahead space (line ∷ lines) ≡ in_front_of (seen_ahead space lines) (seen_line space line)
     by [] some = absurd (omega (arith, some))

@@ -1,9 +1,7 @@
 -- Lines of receipts at the front of a text.
 use Rattle.std.specs.Prelude.{◌≡◌, ℕ, ◌^◌, ◌<◌, List, ◌∷◌, ◌++◌}
 use Rattle.damon_types.specs.declared.space.Target.{Target}
-use Rattle.line_text.specs.Parts.{parts}
 use Rattle.run_journal.specs.declared.entry.Receipt.{Receipt}
-use Rattle.journal_check.specs.Ahead.{seen_ahead}
 use Rattle.journal_text.specs.SeenLine.{PlaceFits}
 use Rattle.journal_text.specs.Spelled.{spelled_seen}
 
@@ -13,9 +11,3 @@ pub record BeginsWithSeen (space : List Target) (text : List ℕ) (seen : ℕ ×
   pub place : PlaceFits space seen.1.page
   pub tag : seen.1.tag < 2 ^ 64
   pub whole : text ≡ spelled_seen space seen.0 seen.1 ++ 10 ∷ rest
-
--- such a text says that receipt first, and then those that the rest says
-abbrev pub ReadsLeadingSeen : Type 0
-ReadsLeadingSeen =
-    (space : List Target) (text : List ℕ) (seen : ℕ × Receipt) (rest : List ℕ) → BeginsWithSeen space text seen rest
-    → seen_ahead space (parts 10 text) ≡ seen ∷ seen_ahead space (parts 10 rest)

@@ -14,9 +14,9 @@ ghost use Rattle.journal_text.specs.Text.{last_text};
 use crate::journal_lines::JournalLines;
 use damon_control::{JournalHead, MAX_BYTES, ReadFail, read_journal_head};
 use damon_core::Monitor;
-use line_text::{parts_are_pieces, pieces_are_parts, split_line};
+use line_text::split_line;
 use run_journal::VerifyFault;
-use script_lines::{body_lines_are_spelled, same_word};
+use script_lines::same_word;
 use snapshot_print::{Form, print_end, print_show};
 use std::alloc::Global;
 
@@ -56,10 +56,6 @@ fn split_head(bytes: &[u8]) -> (&[u8], JournalLines)
     ensures short { IsShort result.1 }
     ensures within { length result.0.now ≤ length bytes.now }
 {
-    // For their clauses alone: how texts are the lines that they are made of.
-    parts_are_pieces();
-    pieces_are_parts();
-    body_lines_are_spelled();
     let mut lines = JournalLines {
         rest: bytes,
         taken: 0,

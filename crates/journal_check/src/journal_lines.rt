@@ -10,9 +10,9 @@ ghost use Rattle.journal_text.specs.Place.{InBlock, JournalPlace};
 ghost use Rattle.run_journal.specs.Replay.{JournalValue};
 
 use damon_types::RangeSpec;
-use line_text::{parts_are_pieces, pieces_are_parts, split_line};
+use line_text::split_line;
 use run_journal::VerifyFault;
-use script_lines::{leading_range, spelled_lines_are_read};
+use script_lines::leading_range;
 
 // A journal text that is read line by line.
 #[derive(Drop)]
@@ -65,10 +65,6 @@ impl<'a> JournalLines<'a> {
         ensures as_long { IfNone result (length self.new.rest.now ≡ length self.old.rest.now) }
         ensures small { IsShort self.new }
     {
-        // For their clauses alone: how lines are read.
-        parts_are_pieces();
-        pieces_are_parts();
-        spelled_lines_are_read();
         let (range, rest) = leading_range(self.rest)?;
         self.rest = rest;
         self.taken += 1;

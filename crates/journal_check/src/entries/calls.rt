@@ -1,6 +1,5 @@
 // The lines of calls.
-ghost use Rattle.std.specs.Prelude.{◌≡◌, ℕ, ◌≤◌, ◌<◌, true, IfOk, IfSome, OnOk, length, option_and_then, option_map};
-ghost use Rattle.std.specs.Option.{option_copied};
+ghost use Rattle.std.specs.Prelude.{◌≡◌, ℕ, ◌≤◌, ◌<◌, true, IfOk, IfSome, OnOk, length, option_map};
 ghost use Rattle.live_commit.specs.Commit.{commit_value};
 ghost use Rattle.script_lines.specs.Body.{no_commit};
 ghost use Rattle.script_lines.specs.Words.{same_word};

@@ -8,7 +8,7 @@ ghost use Rattle.journal_text.specs.SeenLine.{PlaceFits};
 
 use crate::receipts::list::Seen;
 use damon_types::Space;
-use line_text::{leading_address, leading_number, leading_numbers_are_spelled, strip};
+use line_text::{leading_address, leading_number, strip};
 use run_journal::Receipt;
 
 // The receipt of the line at the front of a text, and the text after that line. A shortcut before the
@@ -32,8 +32,6 @@ fn leading_page<'a>(space: &Space, text: &'a [u8]) -> Option<(u32, &'a [u8])>
     ensures fits { IfSome result (λ x. PlaceFits space.now x.0) }
     ensures below { IfSome result (λ x. x.0 < pages_of space.now) }
 {
-    // For its clause alone: what an address is read from.
-    leading_numbers_are_spelled();
     let (target, words) = leading_field(text, b" ", u64::from(u32::MAX))?;
     let (addr, rest) = leading_address(strip(words, b" ")?)?;
     let page = space.page_of(target as u32, addr)?;

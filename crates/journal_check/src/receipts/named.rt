@@ -1,5 +1,5 @@
 // Sets of pages and names of receipts, which passes change.
-ghost use Rattle.std.specs.Prelude.{◌≡◌, ℕ, ◌+◌, ◌≤◌, ◌<◌, ◌==◌, ◌||◌, ◌&&◌, All, false, length, IfOk, replicate, slice_index_or, if◌then◌else◌};
+ghost use Rattle.std.specs.Prelude.{◌≡◌, ℕ, ◌+◌, ◌≤◌, ◌<◌, ◌==◌, ◌||◌, ◌&&◌, All, false, length, IfOk, slice_index_or, if◌then◌else◌};
 ghost use Rattle.std.specs.List.{list_any};
 ghost use Rattle.damon_control.specs.declared.reader.TheConstants.{MAX_BYTES};
 ghost use Rattle.run_journal.specs.declared.entry.Receipt.{Receipt as receipt};

@@ -7,7 +7,6 @@ ghost use Rattle.damon_control.specs.declared.reader.TheConstants.{MAX_BYTES};
 ghost use Rattle.journal_check.specs.Ahead.{after_receipts, seen_ahead, seen_next, seen_numbers, seen_said};
 ghost use Rattle.journal_text.specs.SeenLine.{seen_line, seen_of};
 
-use crate::laws::leading_receipts_are_read;
 use crate::receipts::front::leading_seen;
 use crate::receipts::list::{Seen, SeenList};
 use damon_types::Space;
@@ -74,13 +73,12 @@ fn read_seen_lines(alloc: Global, space: &Space, lines: &[u8]) -> Result<SeenLis
 }
 
 // The receipt of the first line of a text, and the text after that line.
+#[tactic(auto, using(crate::proofs::SeenFront::leading_seen_is_read))]
 fn next_seen<'a>(space: &Space, text: &'a [u8]) -> Option<(Seen, &'a [u8])>
     ensures exact { seen_next space.now result ≡ seen_ahead space.now (parts 10 text.now) }
     ensures within { IfSome result (λ x. x.0.1.page < pages_of space.now) }
     ensures shorter { IfSome result (λ x. length x.1.now < length text.now) }
 {
-    // For its clause alone: what a line at the front says.
-    leading_receipts_are_read();
     match leading_seen(space, text) {
         Some((receipt, rest)) => Some((receipt, rest)),
         None => next_line(space, text),

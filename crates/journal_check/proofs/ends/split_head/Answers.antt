@@ -10,10 +10,8 @@ returns-then-skip_head-clause-tells c =
     let lines = c.skip_head.new.lines in
     let front = c.if-skip_head.ensures.skipped.0 in
     let taken = c.if-skip_head.ensures.skipped.1 in
-    let together = c.parts_are_pieces.ensures.only in
-    let apart = c.pieces_are_parts.ensures.read_back in
-    let has = has_head together apart bytes lines.rest.now front taken.left in
-    text_tells c.body_lines_are_spelled.ensures.words together apart bytes c.before-then-skip_head.result.now lines front taken.left taken.others
+    let has = has_head bytes lines.rest.now front taken.left in
+    text_tells bytes c.before-then-skip_head.result.now lines front taken.left taken.others
     (omega (arith, taken.number))
     (c.before-then-skip_head.ensures.front (lines_text (front ++ codes "begin" ∷ [])) has.whole)
 
@@ -21,4 +19,4 @@ pub returns-else-skip_head-clause-tells : goal.returns-else-skip_head-clause-tel
 returns-else-skip_head-clause-tells c =
     let front = c.if-skip_head.ensures.skipped.0 in
     let all = c.if-skip_head.ensures.skipped.1 in
-    others_text_tells c.body_lines_are_spelled.ensures.words c.args.bytes.now all.last front (said_after_head c.skip_head.new.lines) all.left all.others
+    others_text_tells c.args.bytes.now all.last front (said_after_head c.skip_head.new.lines) all.left all.others
