@@ -25,7 +25,7 @@ use Rattle.script_lines.specs.Lines.{lines_text}
 use Rattle.script_lines.specs.Spelling.{spelled_range, spelled_target}
 use Rattle.damon_control.specs.Text.{AreCommit, IsText, SaysSlot}
 use Rattle.script_lines.specs.Words.{alone, begins_with}
-use Rattle.script_lines.proofs.Lemmas.{alone-Ok, attrs_line-Ok, cap_line-Ok, cap_sound, limited-bounds, limits_sound, part_line-Ok, passes_line-Ok, range_follows, range_line-Ok, scheme_line-Ok, scheme_sound, seed_fits, seed_line-Ok, target_line-Ok, target_sound, unit_line-Ok, unit_sound}
+use Rattle.script_lines.proofs.Lemmas.{alone-Ok, attrs_line-Ok, cap_line-Ok, cap_sound, limits_sound, part_line-Ok, passes_line-Ok, passes_sound, range_follows, range_line-Ok, scheme_line-Ok, scheme_sound, seed_fits, seed_line-Ok, target_line-Ok, target_sound, unit_line-Ok, unit_sound}
 use Rattle.line_text.proofs.Lemmas.{joined-parts}
 use Rattle.target_ranges.proofs.Lemmas.{checked_ranges-push}
 use Rattle.damon_control.proofs.Leads.{leads, read-Lead}
@@ -111,7 +111,7 @@ at_opening OfScript lines f targets specs slots line next before =
     })
 at_opening OfLive lines f targets specs slots line next before =
     read_to (Says OfLive (lines ++ line ∷ [])) (passes_line line) (λ n. InBody (live_begun f.seed (setup_said f targets specs slots) n)) next (λ n read.
-    let within = limited-bounds (arguments (codes "passes") line >>= one_word >>= number_32) 1 1000000 n read in
+    let within = passes_sound line n read in
     record {
       setup = before.others;
       workers = [];
