@@ -1,5 +1,5 @@
 -- The lines of each context, and the contexts that do them.
-use Rattle.std.proofs.Common.{◌≡◌, ◌≢◌, ℕ, zero, suc, ◌+◌, ◌≤◌, ◌==◌, Bool, true, false, cond, List, [], ◌∷◌, ◌++◌, length, drop, take, map, Some, Ok, Err, refl, sym, ap, ◌∙◌, subst, arith, All, add-one, append_assoc, append-nil}
+use Rattle.std.proofs.Common.{◌≡◌, ◌≢◌, ℕ, zero, suc, ◌+◌, ◌≤◌, ◌==◌, Bool, true, false, cond, List, [], ◌∷◌, ◌++◌, length, drop, take, map, Some, Ok, Err, refl, sym, ap, ◌∙◌, subst, arith, All, add-one, append-nil}
 use Rattle.std.specs.Prelude.{Result, slice_get}
 use Rattle.std.specs.List.{AllByRecursion, filter}
 use Rattle.std.proofs.lemmas.Bool.Decides.{nat_tests}
@@ -9,7 +9,6 @@ use Rattle.line_text.specs.Parts.{IsPiece, parts}
 use Rattle.line_text.proofs.Lemmas.{parts_clean}
 use Rattle.script_lines.specs.declared.kind.ScriptKind.{ScriptKind}
 use Rattle.script_lines.specs.declared.kind.ScriptKind.TheVariants.{Header}
-use Rattle.script_lines.specs.Lines.{lines_text}
 use Rattle.script_lines.specs.Refusal.{◌>>=◌, only_if}
 use Rattle.script_lines.specs.Words.{same_word}
 use Rattle.damon_control.specs.declared.fault.ScriptFault.{ScriptFault}
@@ -29,10 +28,6 @@ pub lines_of-append : (c : ℕ) (xs ys : List ContextLine) → lines_of c (xs ++
 lines_of-append c xs ys =
     ap (map (λ (l : ContextLine). l.line)) (filter-append (λ l. l.context == c) xs ys)
     ∙ map-append (λ l. l.line) (filter (λ l. l.context == c) xs) (filter (λ l. l.context == c) ys)
-
--- the lines of one line
-one_of : ContextLine → Bool → List (List ℕ)
-one_of l test = map (λ (x : ContextLine). x.line) (cond test (l ∷ []) [])
 
 pub lines_of-own : (c : ℕ) (l : ContextLine) (ys : List ContextLine) → l.context ≡ c → lines_of c (l ∷ ys) ≡ l.line ∷ lines_of c ys
 lines_of-own c l ys same =

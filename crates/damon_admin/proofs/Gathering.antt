@@ -1,15 +1,11 @@
 -- The lines of each context, as they are gathered.
-use Rattle.std.proofs.Common.{◌≡◌, ◌≢◌, ℕ, zero, suc, ◌+◌, ◌≤◌, List, [], ◌∷◌, ◌++◌, length, Some, Ok, Err, refl, sym, ap, ◌∙◌, subst, arith, All, append_assoc, length-append, slice_set, ◌⊎◌, inl, inr}
-use Rattle.std.specs.Prelude.{Result, slice_get}
-use Rattle.std.specs.List.{AllByRecursion}
-use Rattle.std.proofs.lemmas.List.Elements.{All-append, All-cons, All-nil, All-weaker, recursion_from_All}
+use Rattle.std.proofs.Common.{◌≡◌, ◌≢◌, ℕ, ◌+◌, ◌≤◌, List, [], ◌∷◌, ◌++◌, length, Some, refl, sym, ap, ◌∙◌, subst, arith, append_assoc, length-append, slice_set, ◌⊎◌, inl, inr}
+use Rattle.std.specs.Prelude.{slice_get}
 use Rattle.std.proofs.lemmas.List.{length-set}
 use Rattle.std.proofs.lemmas.Option.{slice_get_within}
 use Rattle.script_lines.specs.Lines.{lines_text}
-use Rattle.script_lines.specs.Refusal.{◌>>=◌}
-use Rattle.damon_control.specs.declared.fault.ScriptFault.{ScriptFault}
 use Rattle.damon_admin.specs.declared.gather.Gathered.{Gathered}
-use Rattle.damon_admin.specs.Kept.{AreGathered, AreWithin, IsGathered}
+use Rattle.damon_admin.specs.Kept.{AreGathered, IsGathered}
 use Rattle.damon_admin.specs.Lines.{ContextLine, context_text, lines_of}
 use Rattle.script_lines.proofs.Lemmas.{lines_text-append}
 use Rattle.damon_admin.proofs.Contexts.{other_more, own_more}
@@ -18,28 +14,6 @@ use Rattle.damon_admin.proofs.Puts.{put_at}
 -- no line is gathered
 abbrev pub IsNone : Gathered → Type 0
 IsNone g = (g.text.items ≡ []) × (g.lines ≡ 0)
-
-pub none_more : (gs : List Gathered) (g : Gathered) → All IsNone gs → IsNone g → All IsNone (gs ++ g ∷ [])
-none_more gs g all one = All-append IsNone gs (g ∷ []) all (All-cons IsNone g [] one (All-nil IsNone))
-
-pub all_at : (P : Gathered → Type 0) (gs : List Gathered) → AllByRecursion P gs → (i : ℕ) (g : Gathered) → slice_get gs i ≡ Some g → P g
-all_at P [] all i g is = absurd cc
-all_at P (h ∷ hs) all zero g is = let it : h ≡ g = cc is in subst P it all.0
-all_at P (h ∷ hs) all (suc i) g is = all_at P hs all.1 i g is
-
-pub none_gathered : (gs : List Gathered) → length gs ≡ 8 → All IsNone gs → AreGathered [] gs
-none_gathered gs eight none = record {
-  eight = eight;
-  each = λ context g is. (let one = all_at IsNone gs (recursion_from_All IsNone gs none) context g is in record { text = one.0; count = one.1 });
-}
-
-pub none_within : (gs : List Gathered) → All IsNone gs → AreWithin 0 gs
-none_within gs none = All-weaker IsNone (λ g. length g.text.items ≤ 0) (λ g one. omega (arith, ap (λ (t : List ℕ). length t) one.0)) gs none
-
--- what is left follows nothing
-pub then_none : (r : Result (List ContextLine) ScriptFault) → r ≡ (r >>= λ left. Ok ([] ++ left))
-then_none (Ok lines) = refl
-then_none (Err fault) = refl
 
 -- lines take at least as many bytes
 pub lines_few : (ls : List (List ℕ)) → length ls ≤ length (lines_text ls)

@@ -1,5 +1,5 @@
 -- All contexts, when the next line is done.
-use Rattle.std.proofs.Common.{◌≡◌, ◌≢◌, ◌⊎◌, inl, inr, ℕ, zero, suc, slice_set, ◌+◌, ◌<◌, Bool, true, false, List, [], ◌∷◌, ◌++◌, length, drop, take, Some, Ok, refl, sym, ap, ◌∙◌, subst, arith}
+use Rattle.std.proofs.Common.{◌≡◌, ◌≢◌, ◌⊎◌, inl, inr, ℕ, zero, suc, slice_set, ◌+◌, ◌<◌, Bool, false, List, [], ◌∷◌, ◌++◌, length, drop, take, Some, refl, sym, ap, ◌∙◌, subst, arith}
 use Rattle.std.specs.Prelude.{slice_get}
 use Rattle.std.proofs.lemmas.List.{drop-drop, length-drop, length-set, take-append-drop}
 use Rattle.std.proofs.lemmas.Option.{slice_get_within}
@@ -80,27 +80,6 @@ module _ (input : List ℕ) (at done : ℕ) (xs : List Context) (t : TakenLine) 
             ∙ ap (λ s. x ++ spoken t.own.context s) made.1
             ∙ ap (λ ls. x ++ line_text ls (take done is.lines) (line_value t.own)) (sym (take-append-drop done is.lines));
       })
-
--- where memory ran out, the contexts are of the same kinds
-pub stopped : (input : List ℕ) (at done : ℕ) (failed : Bool) (xs ys : List Context) → IsAdmin input at done failed xs → AreOfKind xs ys → IsAdmin input at done true ys
-stopped input at done failed xs ys is kinds = record {
-  lines = is.lines;
-  said = is.said;
-  here = is.here;
-  inside = is.inside;
-  few = is.few;
-  eight = kinds.size ∙ is.eight;
-  pieces = is.pieces;
-  kinds = λ c y here. (let x = kinds.each c y here in x.2 (lines_of c is.lines) (is.kinds c x.0 x.1));
-  each = λ ready c y here. absurd (cc ready);
-}
-
--- where no line is left
-pub none_left : (input : List ℕ) (at done : ℕ) (failed : Bool) (xs : List Context) → IsAdmin input at done failed xs → split_from 0 (parts 10 (drop at input)) ≡ Ok []
-    → (admin_of input done failed).left ≡ []
-none_left input at done failed xs is none =
-    let left : drop done is.lines ≡ [] = cc (sym (is.here 0) ∙ none) in
-    ap (λ r. drop done (or_none r)) is.said ∙ left
 
 -- ---- one context of all
 

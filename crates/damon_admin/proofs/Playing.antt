@@ -1,7 +1,5 @@
 -- A context that does its next line.
-use Rattle.std.proofs.Common.{◌≡◌, ◌≢◌, ℕ, ◌+◌, ◌-◌, ◌≤◌, ◌<◌, ◌==◌, Bool, true, false, List, [], ◌∷◌, ◌++◌, length, drop, Ok, Err, refl, sym, ap, ◌∙◌, subst, arith, length-append, append-nil, append_assoc}
-use Rattle.std.specs.Prelude.{if◌then◌else◌}
-use Rattle.std.proofs.lemmas.Bool.Decides.{nat_tests}
+use Rattle.std.proofs.Common.{◌≡◌, ◌≢◌, ℕ, ◌+◌, ◌-◌, Bool, true, false, List, [], ◌∷◌, ◌++◌, length, drop, Ok, refl, sym, ap, ◌∙◌, subst, arith, length-append, append-nil, append_assoc}
 use Rattle.std.proofs.lemmas.List.{append_cancel_left, length-map}
 use Rattle.std.proofs.Math.Seq.{drop-append_seam}
 use Rattle.rand_core.specs.Stream.{Stream}
@@ -12,7 +10,6 @@ use Rattle.script_lines.specs.Command.{CommandValue}
 use Rattle.script_lines.specs.Lines.{lines_text}
 use Rattle.snapshot_print.specs.declared.form.Form.TheVariants.{Text}
 use Rattle.snapshot_print.specs.Lines.{as_text}
-use Rattle.damon_control.specs.declared.fault.ScriptFault.{ScriptFault}
 use Rattle.damon_control.specs.declared.grammar.Grammar.TheVariants.{OfScript}
 use Rattle.damon_control.specs.Script.{AtAttrs, AtCap, AtEnd, AtHeader, AtRanges, AtSchemes, AtSeed, AtTargets, AtUnit, InBody, InCommit, Place, ScriptValue, place_after, script_of}
 use Rattle.script_run.specs.Callbacks.{no_callbacks}
@@ -25,7 +22,7 @@ use Rattle.damon_admin.specs.declared.stage.Stage.{Stage}
 use Rattle.damon_admin.specs.declared.stage.Stage.TheVariants as stage
 use Rattle.damon_admin.specs.Kept.{IsNext, IsRunning, MayPlay, Plays}
 use Rattle.damon_admin.specs.Stage.{completes, stage_after, stage_of}
-use Rattle.damon_admin.specs.Written.{commands_at, fault_line, gained, place_from, place_of, written, written_as, written_at, written_where}
+use Rattle.damon_admin.specs.Written.{commands_at, gained, place_from, place_of, written, written_as, written_at, written_where}
 use Rattle.damon_admin.proofs.Places.{NextPlace, end_is_last, first_commands, next_place}
 use Rattle.damon_admin.proofs.Steps.{IsSaid}
 
@@ -256,30 +253,3 @@ runs_as own done line player now next running b after x whole to empty new text 
     (subst (λ a. IsRunning own (done ++ line ∷ []) new a) (sym to) made.0, made.1)
 
 -- ---- the next line of a context whose lines are no script
-
--- a line is left
-pub some_left : (own done : List (List ℕ)) (line : List ℕ) (left : ℕ) → IsNext own done line → left + length done ≡ length own → 1 ≤ left
-some_left own done line left next count =
-    omega (arith, count, ap (λ (ls : List (List ℕ)). length ls) next.all, length-append done (line ∷ next.later))
-
-fault_gained : (own done : List (List ℕ)) (line : List ℕ) (fault : ScriptFault) (left : ℕ) → IsNext own done line → script_of (lines_text own) ≡ Err fault
-    → left + length done ≡ length own
-    → (left - 1 + length (done ++ line ∷ []) ≡ length own)
-    × ((if (left - 1) == 0 then fault_line fault else []) ≡ gained own done line)
-fault_gained own done line fault left next said count =
-    let size : length own ≡ length done + (1 + length next.later) =
-    omega (arith, ap (λ (ls : List (List ℕ)). length ls) next.all, length-append done (line ∷ next.later)) in
-    let more : length (done ++ line ∷ []) ≡ length done + 1 = length-append done (line ∷ []) in
-    let left_is : left - 1 ≡ length next.later = omega (arith, count, size) in
-    let none : (length done == length own) ≡ false = not_all (length done) (length own) (omega (arith, size)) in
-    let test : ((left - 1) == 0) ≡ (length (done ++ line ∷ []) == length own) = same_test (left - 1) (length (done ++ line ∷ [])) (length own) (omega (arith, left_is, size, more)) in
-    let before : written own done ≡ [] = ap (written_as own done) said ∙ ap (λ t. if t then fault_line fault else []) none in
-    let after : written own (done ++ line ∷ []) ≡ (if (left - 1) == 0 then fault_line fault else []) =
-    ap (written_as own (done ++ line ∷ [])) said ∙ ap (λ t. if t then fault_line fault else []) (sym test) in
-    (omega (arith, left_is, size, more), gained_is own done line [] (if (left - 1) == 0 then fault_line fault else []) before after)
-  where
-    not_all : (a b : ℕ) → a < b → (a == b) ≡ false
-    not_all a b less = grind (arith, nat_tests)
-
-    same_test : (n a b : ℕ) → n + a ≡ b → (n == 0) ≡ (a == b)
-    same_test n a b sum = grind (arith, nat_tests)

@@ -41,7 +41,6 @@ impl Tuner {
     pub fn new(goals: Goals, setup: &Setup) -> Tuner
         ensures { result ≡ all_given setup.now.slots.list (untuned goals) }
     {
-        live_commit::accepted_commits_are_within();
         let mut tuner = Tuner {
             goals,
             schemes: [None; SLOTS],

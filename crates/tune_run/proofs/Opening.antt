@@ -11,6 +11,7 @@ use Rattle.damon_core.specs.Note.{Note, set}
 use Rattle.damon_core.specs.Slots.{slot_count}
 use Rattle.damon_core.specs.State.{opening, opening_notes}
 use Rattle.live_commit.specs.Setup.{IsSetup, SetupValue}
+use Rattle.live_commit.proofs.Lemmas.{setup_accepted}
 use Rattle.quota_goal.specs.declared.goals.Goal.{Goal}
 use Rattle.quota_goal.specs.Tuned.{TunerView, all_given, given, top_after, untuned}
 use Rattle.tune_run.specs.Callbacks.{tuner_in}
@@ -61,9 +62,9 @@ all_set goals (c ∷ changes) notes set_each within =
         ∙ ap (tuner_of goals) (sym (append_assoc (reverse others) (set slot scheme ∷ []) notes))
         ∙ ap (λ front. tuner_of goals (front ++ notes)) (sym (reverse_onto others (set slot scheme) []))
 
-pub opening_tuner : (goals : List Goal) (v : SetupValue) → IsSetup v → AllByRecursion (λ (c : SlotChange). c.slot ≤ MAX_SLOT) v.slots
+pub opening_tuner : (goals : List Goal) (v : SetupValue) → IsSetup v
     → all_given v.slots (untuned goals) ≡ tuner_in goals (tops_of (opening v).notes) (opening v)
-opening_tuner goals v sound within =
+opening_tuner goals v sound =
     ap (all_given v.slots) (none_set goals)
-    ∙ all_set goals v.slots [] (recursion_from_All (λ (c : SlotChange). IsSome c.scheme) v.slots sound.set) within
+    ∙ all_set goals v.slots [] (recursion_from_All (λ (c : SlotChange). IsSome c.scheme) v.slots sound.set) (setup_accepted v sound)
     ∙ ap (tuner_of goals) (append-nil (opening_notes v))

@@ -42,7 +42,6 @@ impl<N: Named> TunedQuotas<N> {
             ((tune_callbacks N.goals).first (opening (value_of setup.now)))
             (opening (value_of setup.now)) }
     {
-        live_commit::accepted_commits_are_within();
         TunedQuotas {
             tuner: Tuner::new(goals, setup),
             moment: None,
@@ -96,7 +95,6 @@ impl<N: Named> Callbacks for TunedQuotas<N> {
     }
 
     fn after_commit(&mut self, commit: &Commit, answer: &Result<Changed, CommitFault>) {
-        live_commit::accepted_commits_are_within();
         self.moment = None;
         if answer.is_ok() && is_within(commit) {
             self.follow(commit);

@@ -13,7 +13,7 @@ returns g c =
       opening = record {
         is =
             c.new.ensures
-            ∙ opening_tuner c.args.goals v c.args.setup.now.sound (c.accepted_commits_are_within.ensures.setup v c.args.setup.now.sound)
+            ∙ opening_tuner c.args.goals v c.args.setup.now.sound
             ∙ ap (λ goals. tuner_in goals (tops_of (opening v).notes) (opening v)) c.requires.goals;
         free = tt;
       };

@@ -3,6 +3,7 @@ use Rattle.damon_types.specs.declared.scheme.SlotChange.{SlotChange}
 use Rattle.damon_types.specs.declared.scheme.TheConstants.{MAX_SLOT}
 use Rattle.live_commit.specs.declared.fault.CommitFault.{CommitFault}
 use Rattle.live_commit.specs.Commit.{commit_value}
+use Rattle.live_commit.proofs.Lemmas.{commit_accepted}
 use Rattle.damon_core.specs.Commit.{check_of, commit_answer, view_of}
 use Rattle.damon_core.specs.State.{State}
 use Rattle.quota_goal.specs.declared.moment.Moment.TheVariants.{Metric}
@@ -39,7 +40,7 @@ refused g c s is =
     elim c.else-is_ok.branch [
       | else-is_ok-via-then-is_ok+else-is_within w ↦
           let ok = answered_ok parts s.core c.args.answer.now is (sym c.is_ok.ensures.value ∙ w.if-is_ok.true) in
-          let slot = (c.accepted_commits_are_within.ensures.accepted s.core.space (view_of s.core) parts ok).slot in
+          let slot = (commit_accepted s.core.space (view_of s.core) parts ok).slot in
           let within = w.is_within.ensures.1 (if_some_of (λ (x : SlotChange). x.slot ≤ MAX_SLOT) c.args.commit.now.slot slot) in
           let bad : true ≡ false = sym within ∙ w.if-is_within.false in
           absurd (cc bad)
