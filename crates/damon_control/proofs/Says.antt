@@ -24,7 +24,7 @@ use Rattle.damon_control.specs.Script.{AtAttrs, AtCap, AtEnd, AtHeader, AtRanges
 use Rattle.script_lines.specs.Lines.{lines_text}
 use Rattle.script_lines.specs.Spelling.{spelled_range, spelled_target}
 use Rattle.damon_control.specs.Text.{AreCommit, IsText, SaysSlot}
-use Rattle.script_lines.specs.Words.{alone, begins_with}
+use Rattle.script_lines.specs.Words.{alone, arguments, begins_with, number_32, one_word}
 use Rattle.script_lines.proofs.Lemmas.{alone-Ok, attrs_line-Ok, cap_line-Ok, cap_sound, limited-bounds, limits_sound, part_line-Ok, passes_line-Ok, range_follows, range_line-Ok, scheme_line-Ok, scheme_sound, seed_fits, seed_line-Ok, target_line-Ok, target_sound, unit_line-Ok, unit_sound}
 use Rattle.line_text.proofs.Lemmas.{joined-parts}
 use Rattle.target_ranges.proofs.Lemmas.{checked_ranges-push}
