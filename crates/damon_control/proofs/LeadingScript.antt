@@ -13,7 +13,7 @@ use Rattle.script_lines.specs.Command.{CommandValue, Commit, weight, work_of}
 use Rattle.script_lines.specs.Laws.{IsCommand}
 use Rattle.script_lines.specs.Refusal.{◌>>=◌}
 use Rattle.damon_control.specs.Script.{AtEnd, AtHeader, Body, InBody, InCommit, ScriptValue, begun, header_of, place_after, script_of, with_command}
-use Rattle.damon_control.specs.Text.{AreCommit, EachSays, IsText, SayCommand, all_lines, TextsAreRead}
+use Rattle.damon_control.specs.Text.{AreCommit, EachSays, IsText, SayCommand, TextsAreRead, all_lines}
 use Rattle.script_lines.specs.Words.{begins_with}
 use Rattle.script_lines.proofs.Lemmas.{lines_read_back}
 use Rattle.damon_control.proofs.Leading.{Opens, else_way, led_read, parts_lead, setup_leads, then_way}

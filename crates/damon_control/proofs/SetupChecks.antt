@@ -18,6 +18,8 @@ use Rattle.live_commit.specs.declared.fault.SetupFault.TheVariants.{BadScheme, R
 use Rattle.live_commit.specs.Checked.{checked_limits}
 use Rattle.live_commit.specs.Setup.{SetupValue}
 use Rattle.live_commit.specs.Slots.{checked_after, checked_set, checked_slot, checked_slots, has_scheme, is_set}
+use Rattle.live_commit.proofs.Lemmas.{checked_slots-push}
+use Rattle.target_ranges.proofs.Lemmas.{checked_ranges-push}
 use Rattle.damon_control.specs.Text.{SaySetup}
 use Rattle.damon_control.proofs.SlotLines.{free_accepted, scheme_accepted}
 
@@ -182,3 +184,6 @@ said_limits lines seed s says = limits_checked lines seed s says
 
 pub said_slots : (lines : List (List ℕ)) (seed : ℕ) (s : SetupValue) → SaySetup lines seed s → checked_slots s.version s.slots ≡ Ok tt
 said_slots lines seed s says = parts_checked s.version [] s.slots says.set (record { apart = says.apart; accepted = says.accepted }) (λ k d below. refl)
+
+-- accepted ranges, or slots, and one more
+pub ruleset one_more = (checked_ranges-push, checked_slots-push)

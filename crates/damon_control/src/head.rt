@@ -148,6 +148,7 @@ pub fn read_ranges(
 }
 
 // Reads one more `range TARGET FROM TO CLASS`.
+#[tactic(auto, using(crate::proofs::SetupChecks::one_more))]
 fn take_range(
     lines: &mut Lines,
     frame: &Frame,
@@ -177,6 +178,7 @@ fn take_range(
 }
 
 // Reads the lines of the schemes.
+#[tactic(auto, using(crate::proofs::SetupChecks::one_more))]
 pub fn read_slots(
     alloc: Global,
     lines: &mut Lines,
