@@ -23,15 +23,7 @@ use Rattle.journal_text.specs.Text.{journal_text}
 abbrev pub one_page : LiveValue
 one_page = record {
   seed = 42;
-  setup = record {
-    version = One;
-    space = record { base = 0; pages = 1 } ∷ [];
-    unit = 1;
-    cap = 3;
-    attrs = record { min = 3; max = 3; aggr = 5 };
-    ranges = record { target = 0; first = 0; pages = 1; class = 0 } ∷ [];
-    slots = [];
-  };
+  setup = record { version = One; space = record { base = 0; pages = 1 } ∷ []; unit = 1; cap = 3; attrs = record { min = 3; max = 3; aggr = 5 }; ranges = record { target = 0; first = 0; pages = 1; class = 0 } ∷ []; slots = [] };
   passes = 1;
   workers = (0 ∷ []) ∷ (0 ∷ []) ∷ [];
   controllers = (ShowCall ∷ []) ∷ [];
@@ -56,8 +48,6 @@ pub record Comes : Type 0 where
   pub text :
       journal_text one_page one_pass two_receipts
       ≡ codes "damon journal 1\nseed 42\nunit 1\ncap 3\nattrs 3 3 5\ntarget 0x0 1\nrange 0 0x0 0x1000 0\nbegin\nprepare 1 at 0\ncall 0 0 show\nanswer shown tick=0 rows=1\ncheck 1 1\nreceipts\nseen 0 0 0x0 1\nseen 1 0 0x0 0\nsettled\nshow tick=1 phase=idle rows=1\nrow 0 0x0-0x1000 count=1 last=0 age=0\nend ticks=1 rows=1 checks=1 hits=1\n"
-
--- ---- it comes to this
 
 abbrev first : Receipt
 first = record { page = 0; tag = 1 }
