@@ -1,13 +1,13 @@
 -- What the answer says of two requests: of a plain report, and of a journal whose text is refused.
-use Rattle.std.proofs.Common.{◌≡◌, ◌∙◌, ℕ, List, Option, Some, None, ap, sym, subst}
+use Rattle.std.proofs.Common.{◌≡◌, ◌∙◌, ℕ, List, Option, Some, None, Err, ap, sym, subst}
 use Rattle.std.specs.Prelude.{IfSome, String}
 use Rattle.std.specs.declared.alloc.Global.{Global}
 use Rattle.std.specs.Io.KnownBytes.{Appends}
 use Rattle.snapshot_print.specs.declared.form.Form.TheVariants.{Text}
 use Rattle.script_run.specs.TextReport.{ReportsAreText, text_report}
+use Rattle.journal_text.specs.Reading.{read_journal}
 use Rattle.run_status.specs.Status.{IsRead}
 use Rattle.journal_check.specs.Verified.{IsOfNoLawfulRun}
-use Rattle.journal_check.proofs.Lemmas.{rejected_is_unlawful}
 use Rattle.run_status.specs.declared.status.Status.{Status}
 use Rattle.run_status.specs.declared.status.Status.TheVariants.{Unlawful}
 use Rattle.damon_app.specs.declared.request.Request.{Request}
@@ -28,15 +28,15 @@ pub plain_report : ReportsAreText → (words : List (String Global)) (told old n
 plain_report texts words told old new asks wrote = by_states texts told old new (wrote (Report (Plain Text)) (ap request_of asks))
 
 -- a text that is told has a rejected line, and so is that of no lawful run
-told_unlawful : (status : Status) (told : Option (List ℕ)) (line : ℕ) → status ≡ Unlawful line → IfSome told (TellsFault (Some Verify) status) → IfSome told IsOfNoLawfulRun
-told_unlawful status None line is tells = tt
-told_unlawful status (Some bytes) line is tells = rejected_is_unlawful bytes line ((tells line).0 is)
+told_unlawful : ((text : List ℕ) (line : ℕ) → read_journal text ≡ Err line → IsOfNoLawfulRun text) → (status : Status) (told : Option (List ℕ)) (line : ℕ) → status ≡ Unlawful line → IfSome told (TellsFault (Some Verify) status) → IfSome told IsOfNoLawfulRun
+told_unlawful law status None line is tells = tt
+told_unlawful law status (Some bytes) line is tells = law bytes line ((tells line).0 is)
 
 -- the status Unlawful comes of texts that are those of no lawful run
-pub unlawful_text : (request : Option Request) (status : Status) (told : Option (List ℕ)) (line : ℕ) → MayCome status request → (ReadsInput request → IsRead status → IfSome told (TellsFault request status)) → status ≡ Unlawful line → IfSome told IsOfNoLawfulRun
-unlawful_text (Some Verify) status told line comes fault is = told_unlawful status told line is (fault tt (subst IsRead (sym is) tt))
-unlawful_text (Some (Heat columns)) status told line comes fault is = told_unlawful status told line is (fault tt (subst IsRead (sym is) tt))
-unlawful_text (Some (Report run)) status told line comes fault is = absurd (subst (λ (s : Status). MayCome s (Some (Report run))) is comes)
-unlawful_text (Some Admin) status told line comes fault is = absurd (subst (λ (s : Status). MayCome s (Some Admin)) is comes)
-unlawful_text (Some (Generate n)) status told line comes fault is = absurd (subst (λ (s : Status). MayCome s (Some (Generate n))) is comes)
-unlawful_text None status told line comes fault is = absurd (subst (λ (s : Status). MayCome s None) is comes)
+pub unlawful_text : ((text : List ℕ) (line : ℕ) → read_journal text ≡ Err line → IsOfNoLawfulRun text) → (request : Option Request) (status : Status) (told : Option (List ℕ)) (line : ℕ) → MayCome status request → (ReadsInput request → IsRead status → IfSome told (TellsFault request status)) → status ≡ Unlawful line → IfSome told IsOfNoLawfulRun
+unlawful_text law (Some Verify) status told line comes fault is = told_unlawful law status told line is (fault tt (subst IsRead (sym is) tt))
+unlawful_text law (Some (Heat columns)) status told line comes fault is = told_unlawful law status told line is (fault tt (subst IsRead (sym is) tt))
+unlawful_text law (Some (Report run)) status told line comes fault is = absurd (subst (λ (s : Status). MayCome s (Some (Report run))) is comes)
+unlawful_text law (Some Admin) status told line comes fault is = absurd (subst (λ (s : Status). MayCome s (Some Admin)) is comes)
+unlawful_text law (Some (Generate n)) status told line comes fault is = absurd (subst (λ (s : Status). MayCome s (Some (Generate n))) is comes)
+unlawful_text law None status told line comes fault is = absurd (subst (λ (s : Status). MayCome s None) is comes)

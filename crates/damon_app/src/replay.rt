@@ -34,7 +34,7 @@ use crate::{Request, Run};
 use damon_admin::{contexts_are_apart, contexts_are_bound, voices_are_reports};
 use damon_control::{MAX_WORK, Script, read_script};
 use damon_types::{Sink, Source};
-use journal_check::verify;
+use journal_check::{rejected_texts_are_unlawful, verify};
 use run_status::Status;
 use script_run::reports_are_text;
 use std::alloc::Global;
@@ -127,8 +127,8 @@ pub fn replay_main<S: Source, K: Sink>(
     ensures prefix { IsBegun (asked words.now) (sink.new ≡ sink.old)
         (S.left source.old) (K.taken sink.old) (K.taken sink.new) }
 {
-    // For their clauses alone: that a report is the text of the states along its run, and what holds of every
-    // script.
+    // For their clauses alone: that a report is the text of the states along its run, what holds of every
+    // script, and that no lawful journal is rejected.
     reports_are_text();
     each_run_is_bound();
     each_run_chooses_best();
@@ -138,6 +138,7 @@ pub fn replay_main<S: Source, K: Sink>(
     voices_are_reports();
     contexts_are_apart();
     contexts_are_bound();
+    rejected_texts_are_unlawful();
     serve(alloc, words, source, sink)
 }
 

@@ -14,8 +14,7 @@ use Rattle.journal_check.specs.LinesLeft.{IsFault}
 use Rattle.journal_text.specs.Place.{JournalRead}
 use Rattle.journal_text.specs.Reading.{read_journal}
 use Rattle.run_journal.specs.Replay.{JournalValue}
-use Rattle.journal_text.specs.Rules.{ReadsOnlyLawful}
-use Rattle.journal_text.proofs.Lemmas.{journals_read_back}
+use Rattle.journal_text.specs.Rules.{ReadsLawfulBack, ReadsOnlyLawful}
 use Rattle.journal_check.specs.Verified.{IsOfNoLawfulRun, IsReadAs, IsRunText, IsVerified}
 use Rattle.run_journal.specs.Woven.{WovenRuns}
 
@@ -39,12 +38,12 @@ pub read_is_lawful : ReadsOnlyLawful → OfLawful WovenRuns → OfLawful HitsAre
 read_is_lawful law weaves few text counts kept short has = record { said = has.read; run = run_text law weaves few text has.read short has.is has.opens; counted = has.counted }
 
 -- a text that has a rejected line is of no lawful journal that a text can spell
-pub rejected_is_unlawful : (text : List ℕ) (line : ℕ) → read_journal text ≡ Err line → IsOfNoLawfulRun text
-rejected_is_unlawful text line is v j all lawful fits same =
-    let back = journals_read_back v j all lawful fits in
+pub rejected_is_unlawful : ReadsLawfulBack → (text : List ℕ) (line : ℕ) → read_journal text ≡ Err line → IsOfNoLawfulRun text
+rejected_is_unlawful law text line is v j all lawful fits same =
+    let back = law v j all lawful fits in
     let both : Err line ≡ Ok back.said = sym is ∙ ap read_journal same ∙ back.read in cc both
 
 -- the same of a fault that is not that of memory
-pub fault_is_unlawful : (text : List ℕ) (fault : VerifyFault) → IsFault fault (read_journal text) → fault ≢ Memory → IsOfNoLawfulRun text
-fault_is_unlawful text Memory is not = absurd (not refl)
-fault_is_unlawful text (Unlawful line) is not = rejected_is_unlawful text line is
+pub fault_is_unlawful : ((text : List ℕ) (line : ℕ) → read_journal text ≡ Err line → IsOfNoLawfulRun text) → (text : List ℕ) (fault : VerifyFault) → IsFault fault (read_journal text) → fault ≢ Memory → IsOfNoLawfulRun text
+fault_is_unlawful law text Memory is not = absurd (not refl)
+fault_is_unlawful law text (Unlawful line) is not = law text line is

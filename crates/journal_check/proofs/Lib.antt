@@ -1,4 +1,3 @@
-pub mod Lemmas
 mod OpenHits
 mod Lefts
 mod LastLines

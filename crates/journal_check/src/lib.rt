@@ -8,6 +8,8 @@ mod ends;
 mod entries;
 /// A journal text, line by line.
 mod journal_lines;
+/// A law of journal texts.
+mod laws;
 /// The receipts of a journal text.
 mod receipts;
 /// A journal that is carried out from one aggregation to the next.
@@ -15,5 +17,6 @@ mod replayer;
 /// The check of a journal text.
 mod verifying;
 
+pub use laws::rejected_texts_are_unlawful;
 pub use replayer::Replayer;
 pub use verifying::verify;

@@ -13,6 +13,7 @@ ghost use Rattle.journal_check.specs.Replayer.{HasStepped, KeepsWay, Leads, Reac
 ghost use Rattle.journal_check.specs.Verified.{IsOfNoLawfulRun};
 
 use crate::entries::kept::{Keeping, Kept, KeptCall};
+use crate::laws::rejected_texts_are_unlawful;
 use crate::verifying::read_text;
 use damon_control::MAX_BYTES;
 use damon_core::Monitor;
@@ -59,17 +60,17 @@ impl Replayer {
     ///
     /// `Unlawful` with the first rejected line if it is not the text of a lawful run; `Memory` if memory runs
     /// out.
-    #[tactic(auto, using(crate::proofs::Judged::fault_is_unlawful))]
     pub fn new(alloc: Global, bytes: &[u8]) -> Result<Replayer, VerifyFault>
         requires { length bytes.now ≤ MAX_BYTES }
         ensures lawful { IfOk result (λ r. ReadsRun bytes.now r) }
         ensures unlawful { IfErr result (λ fault. fault ≢ VerifyFault.Memory → IsOfNoLawfulRun bytes.now) }
         ensures line { IfErr result (λ fault. IsFault fault (read_journal bytes.now)) }
     {
-        // For their clauses alone: what is read is lawful and so one run.
+        // For their clauses alone: what is read is lawful and so one run, and what is rejected is not lawful.
         read_journals_are_lawful();
         woven_runs();
         hits_are_few();
+        rejected_texts_are_unlawful();
         let (_counts, kept) = read_text(alloc, bytes, Keeping::Everything)?;
         let replayer = start(alloc, kept)?;
         Ok(replayer)

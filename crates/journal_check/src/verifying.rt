@@ -11,6 +11,7 @@ use crate::ends::{compare_last, open_text};
 use crate::entries::fold::Fold;
 use crate::entries::kept::{Keeping, Kept};
 use crate::journal_lines::JournalLines;
+use crate::laws::rejected_texts_are_unlawful;
 use crate::receipts::part::take_receipts;
 use damon_control::MAX_BYTES;
 use journal_text::read_journals_are_lawful;
@@ -33,10 +34,12 @@ pub fn verify(alloc: Global, bytes: &[u8]) -> Result<Lawful, VerifyFault>
     // It is accepted exactly where it is read line by line; else its first rejected line is named.
     ensures line { IfErr result (λ fault. IsFault fault (read_journal bytes.now)) }
 {
-    // For their clauses alone: what is read is lawful, and so one run with few hits.
+    // For their clauses alone: what is read is lawful, and so one run with few hits, and what is rejected is
+    // not lawful.
     read_journals_are_lawful();
     woven_runs();
     hits_are_few();
+    rejected_texts_are_unlawful();
     let (counts, _kept) = read_text(alloc, bytes, Keeping::Nothing)?;
     Ok(counts)
 }

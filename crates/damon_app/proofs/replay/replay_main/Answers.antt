@@ -9,7 +9,7 @@ returns-clause-ok g c e asks =
 
 pub returns-clause-unlawful : goal.returns-clause-unlawful
 returns-clause-unlawful g c = λ line e.
-    unlawful_text (asked c.args.words.now) c.serve.result (g.S.Source.left c.args.source.now) line c.serve.ensures.comes c.serve.ensures.refused e
+    unlawful_text c.rejected_texts_are_unlawful.ensures (asked c.args.words.now) c.serve.result (g.S.Source.left c.args.source.now) line c.serve.ensures.comes c.serve.ensures.refused e
 
 pub returns-clause-report : goal.returns-clause-report
 returns-clause-report g c run e asks = c.serve.ensures.wrote (Report run) e asks

@@ -13,4 +13,4 @@ returns-in_err-counts-clause-line c =
 pub returns-in_err-counts-clause-unlawful : goal.returns-in_err-counts-clause-unlawful
 returns-in_err-counts-clause-unlawful c =
     let p = err_from_is_err_and c.from_residual.result c.from_residual.ensures.1 in
-    rw (p.1, p.2) (fault_is_unlawful c.args.bytes.now c.in_err-counts.field-0.0 c.in_err-counts.ensures.fault)
+    rw (p.1, p.2) (fault_is_unlawful c.rejected_texts_are_unlawful.ensures c.args.bytes.now c.in_err-counts.field-0.0 c.in_err-counts.ensures.fault)
