@@ -17,7 +17,7 @@ use crate::pieces::hand_over;
 use crate::request::Columns;
 use damon_core::Monitor;
 use damon_types::{Sink, Source};
-use heat_report::{Sizes, tiled_rows_lie_in, working_set, write_last, write_report};
+use heat_report::{Sizes, working_set, write_last, write_report};
 use journal_check::Replayer;
 use run_status::Status;
 use std::alloc::{AllocError, Global};
@@ -158,9 +158,6 @@ fn write_one<const N: usize>(
     ensures sizes { OnOk result ((s : State) → Stands monitor.now s
         → sizes.new ≡ sizes.old ++ working_set s.core.report.rows ∷ []) }
 {
-    // For their clauses alone: the rows of a report tile ranges of the space.
-    damon_core::reported_rows_tile();
-    tiled_rows_lie_in();
     let rows = &monitor.report().rows;
     write_report::<N>(tick, rows, monitor.space(), monitor.attrs().aggr, out)?;
     sizes.push(working_set(rows))

@@ -55,9 +55,5 @@ pub(crate) fn heat_tables_add_up()
     ensures { (n : ℕ) (v : LiveValue) (j : JournalValue) → 1 ≤ n → CanOpen v.setup → IsJournalOf v j
         → AllByRecursion (AddUp n) (aggregated v j) }
 {
-    run_journal::aggregations_report_all_pages();
-    damon_core::reported_rows_tile();
-    heat_report::tiled_rows_lie_in();
-    heat_report::heat_is_of_rows();
-    heat_report::freqs_are_all_pages();
+    damon_core::reached_states_are_bound();
 }
