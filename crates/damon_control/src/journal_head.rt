@@ -33,11 +33,9 @@ pub struct JournalHead {
 
 /// Reads the head of a journal, of at most [`MAX_BYTES`] bytes: its first line, the lines of a
 /// setup, each in its one spelling, and `begin`, after which nothing follows. For any other text,
-/// returns the first line that is rejected and the first kind that applies to it. By the law
-/// [`journal_heads_are_exactly_read`] a text that is read is the one that [`write_journal_head`]
-/// appends for what it says. Allocates; returns `Memory` only if out of memory.
-///
-/// [`journal_heads_are_exactly_read`]: crate::journal_heads_are_exactly_read
+/// returns the first line that is rejected and the first kind that applies to it. So a text that is
+/// read is the one that [`write_journal_head`] appends for what it says. Allocates; returns `Memory`
+/// only if out of memory.
 pub fn read_journal_head(alloc: Global, bytes: &[u8]) -> Result<JournalHead, ReadFail>
     requires { length bytes.now ≤ MAX_BYTES }
     ensures head { IfOk result (λ h. head_of bytes.now ≡ Ok (head_said h)) }
