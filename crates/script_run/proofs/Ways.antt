@@ -114,6 +114,12 @@ module _ {R : Type 0} (stream : R → Stream) (s : ScriptValue) (f : Form) where
       → IsOnItsWay stream s f b (text ++ added)
   way-on = way-on-with stream no_callbacks AnyState s f
 
+  pub way-prefix : (p : PlayerView R) (text : List ℕ) → IsOnItsWay stream s f p text
+      → (rest : List ℕ) × (report (writing_of f) s ≡ text ++ rest)
+  way-prefix p text way =
+      let more = way-prefix-with stream no_callbacks AnyState s f p text way in
+      (more.0, sym (report-alone (writing_of f) s) ∙ more.1)
+
   pub way-finished : (p : PlayerView R) (written filled last : List ℕ) → IsOnItsWay stream s f p (written ++ filled) → IsOver stream p
       → WritesLast stream p filled last → written ++ last ≡ report (writing_of f) s
   way-finished p written filled last way over ends =

@@ -1,35 +1,13 @@
 use Rattle.std.proofs.Common.{◌++◌, sym, ap, ◌∙◌, subst}
 use Rattle.std.proofs.lemmas.Result.{err_from_is_err_and}
 use Rattle.damon_core.specs.Stands.{Stands}
-use Rattle.damon_world.specs.Moment.{events_of_steps, next_event}
-use Rattle.damon_world.specs.Plays.{Plays}
+use Rattle.damon_world.specs.Moment.{next_event}
 use Rattle.snapshot_print.specs.Forms.{writing_of}
 use Rattle.snapshot_print.specs.Printed.{printed_monitor}
 use Rattle.script_run.specs.Calls.{IsAggregated}
-use Rattle.script_run.specs.Kept.{StandSomewhere}
 use Rattle.script_run.proofs.Making.{GoesAlong, IsDue, aggregated_at, aggregation_plays, aggregation_puts, aggregation_writes, made-puts, one_step, somewhere-aggregated, words_at}
 use Rattle.script_run.proofs.Moves.{OnErr-map, OnOk-map, keeps-more, keeps-none}
-use Rattle.script_run.proofs.together.make_aggregation.Given.{Over}
 use Rattle.script_run.proofs.together.make_aggregation.Goals as goal
-
--- the step that the world made is the aggregation that was due
-is_due_step : (g : Over) (c : goal.After-advance g) → Plays g.R.Rng.stream c.args.world.now c.advance.new.self (λ m. events_of_steps 1 m)
-is_due_step g c =
-    one_step g.R.Rng.stream g.C.Callbacks.callbacks g.C.Callbacks.stands_for c.args.world.now c.advance.new.self c.advance.result c.requires.due
-    c.advance.ensures.count c.advance.ensures.plays
-
--- the callbacks follow it
-goes_along : (g : Over) (c : goal.After-after_aggregation g)
-    → GoesAlong g.R.Rng.stream g.C.Callbacks.callbacks g.C.Callbacks.stands_for c.advance.new.self.monitor c.args.callbacks.now c.after_aggregation.new.self
-goes_along g c =
-    subst (λ v. GoesAlong g.R.Rng.stream g.C.Callbacks.callbacks g.C.Callbacks.stands_for v c.args.callbacks.now c.after_aggregation.new.self) c.monitor.ensures
-    c.after_aggregation.ensures.stands
-
-somewhere : (g : Over) (c : goal.After-after_aggregation g)
-    → StandSomewhere g.R.Rng.stream g.C.Callbacks.stands_for c.advance.new.self c.after_aggregation.new.self
-somewhere g c =
-    somewhere-aggregated g.R.Rng.stream g.C.Callbacks.callbacks g.C.Callbacks.stands_for c.args.world.now c.advance.new.self c.args.callbacks.now
-    c.after_aggregation.new.self (c.requires.due, c.requires.ticks) (is_due_step g c) (goes_along g c) c.requires.somewhere
 
 pub after_aggregation-requires : goal.after_aggregation-requires
 after_aggregation-requires g c =
@@ -40,7 +18,7 @@ after_aggregation-requires g c =
     let new = c.advance.new.self in
     let kk = c.args.callbacks.now in
     let due : IsDue stream k stands old = (c.requires.due, c.requires.ticks) in
-    let plays = is_due_step g c in
+    let plays = one_step stream k stands old new c.advance.result c.requires.due c.advance.ensures.count c.advance.ensures.plays in
     let there = c.requires.somewhere in
     let r = there.course in
     let words = words_at stream k stands r in
@@ -48,7 +26,18 @@ after_aggregation-requires g c =
     (r.memory, r.moment.state, words, subst (λ v. IsAggregated (λ memory t. stands kk memory t) v r.memory r.moment.state words) (sym c.monitor.ensures) is)
 
 pub put_in-requires : goal.put_in-requires
-put_in-requires g c = somewhere g c
+put_in-requires g c =
+    let stream = g.R.Rng.stream in
+    let stands = g.C.Callbacks.stands_for in
+    let k = g.C.Callbacks.callbacks in
+    let old = c.args.world.now in
+    let new = c.advance.new.self in
+    let kk = c.args.callbacks.now in
+    let due : IsDue stream k stands old = (c.requires.due, c.requires.ticks) in
+    let plays = one_step stream k stands old new c.advance.result c.requires.due c.advance.ensures.count c.advance.ensures.plays in
+    let told = c.after_aggregation in
+    let follow = subst (λ v. GoesAlong stream k stands v kk told.new.self) c.monitor.ensures told.ensures.stands in
+    somewhere-aggregated stream k stands old new kk told.new.self due plays follow c.requires.somewhere
 
 pub returns-in_err-print_aggregate-clause-err : goal.returns-in_err-print_aggregate-clause-err
 returns-in_err-print_aggregate-clause-err g c =
@@ -56,7 +45,18 @@ returns-in_err-print_aggregate-clause-err g c =
     rw p.1 (keeps-none c.args.out.now.items _ c.in_err-print_aggregate.ensures.err)
 
 pub returns-in_err-print_aggregate-clause-somewhere : goal.returns-in_err-print_aggregate-clause-somewhere
-returns-in_err-print_aggregate-clause-somewhere g c = somewhere g c
+returns-in_err-print_aggregate-clause-somewhere g c =
+    let stream = g.R.Rng.stream in
+    let stands = g.C.Callbacks.stands_for in
+    let k = g.C.Callbacks.callbacks in
+    let old = c.args.world.now in
+    let new = c.advance.new.self in
+    let kk = c.args.callbacks.now in
+    let due : IsDue stream k stands old = (c.requires.due, c.requires.ticks) in
+    let plays = one_step stream k stands old new c.advance.result c.requires.due c.advance.ensures.count c.advance.ensures.plays in
+    let told = c.after_aggregation in
+    let follow = subst (λ v. GoesAlong stream k stands v kk told.new.self) c.monitor.ensures told.ensures.stands in
+    somewhere-aggregated stream k stands old new kk told.new.self due plays follow c.requires.somewhere
 
 pub returns-in_err-append_lines-clause-err : goal.returns-in_err-append_lines-clause-err
 returns-in_err-append_lines-clause-err g c =
@@ -64,7 +64,18 @@ returns-in_err-append_lines-clause-err g c =
     rw p.1 (keeps-more c.args.out.now.items c.print_aggregate.new.out.items _ _ c.in_ok-print_aggregate.ensures.ok (keeps-none c.print_aggregate.new.out.items _ c.in_err-append_lines.ensures.err))
 
 pub returns-in_err-append_lines-clause-somewhere : goal.returns-in_err-append_lines-clause-somewhere
-returns-in_err-append_lines-clause-somewhere g c = somewhere g c
+returns-in_err-append_lines-clause-somewhere g c =
+    let stream = g.R.Rng.stream in
+    let stands = g.C.Callbacks.stands_for in
+    let k = g.C.Callbacks.callbacks in
+    let old = c.args.world.now in
+    let new = c.advance.new.self in
+    let kk = c.args.callbacks.now in
+    let due : IsDue stream k stands old = (c.requires.due, c.requires.ticks) in
+    let plays = one_step stream k stands old new c.advance.result c.requires.due c.advance.ensures.count c.advance.ensures.plays in
+    let told = c.after_aggregation in
+    let follow = subst (λ v. GoesAlong stream k stands v kk told.new.self) c.monitor.ensures told.ensures.stands in
+    somewhere-aggregated stream k stands old new kk told.new.self due plays follow c.requires.somewhere
 
 pub returns-clause-made : goal.returns-clause-made
 returns-clause-made g c =
@@ -75,9 +86,9 @@ returns-clause-made g c =
     let new = c.advance.new.self in
     let kk = c.args.callbacks.now in
     let due : IsDue stream k stands old = (c.requires.due, c.requires.ticks) in
-    let plays = is_due_step g c in
+    let plays = one_step stream k stands old new c.advance.result c.requires.due c.advance.ensures.count c.advance.ensures.plays in
     let told = c.after_aggregation in
-    let follow = goes_along g c in
+    let follow = subst (λ v. GoesAlong stream k stands v kk told.new.self) c.monitor.ensures told.ensures.stands in
     let x = c.args.out.now.items in
     let y = c.print_aggregate.new.out.items in
     let z = c.append_lines.new.out.items in
@@ -101,9 +112,9 @@ returns-clause-err g c =
     let new = c.advance.new.self in
     let kk = c.args.callbacks.now in
     let due : IsDue stream k stands old = (c.requires.due, c.requires.ticks) in
-    let plays = is_due_step g c in
+    let plays = one_step stream k stands old new c.advance.result c.requires.due c.advance.ensures.count c.advance.ensures.plays in
     let told = c.after_aggregation in
-    let follow = goes_along g c in
+    let follow = subst (λ v. GoesAlong stream k stands v kk told.new.self) c.monitor.ensures told.ensures.stands in
     let x = c.args.out.now.items in
     let y = c.print_aggregate.new.out.items in
     let z = c.append_lines.new.out.items in
