@@ -1,17 +1,15 @@
 -- What a live text says can be spelled: its setup, and each of its calls.
-use Rattle.std.proofs.Common.{◌∷◌, [], ℕ, List}
+use Rattle.std.proofs.Common.{◌≡◌, ◌∷◌, [], ℕ, List, Ok}
 use Rattle.std.specs.List.{AllByRecursion}
 use Rattle.damon_types.specs.declared.scheme.Version.{Version}
 use Rattle.live_commit.specs.Setup.{SetupValue}
-use Rattle.target_ranges.specs.Laws.{MakesEach, MakesInOrder}
-use Rattle.damon_control.specs.JournalHead.{HeadsAreWritable}
 use Rattle.damon_control.specs.Live.{CallValue, CommitCall, LiveValue, ShowCall}
-use Rattle.damon_control.specs.LiveText.{IsLiveText, SayCall, SayController}
+use Rattle.damon_control.specs.LiveText.{SayCall, SayController}
+use Rattle.damon_control.specs.Script.{HeadValue, head_of, live_of}
 use Rattle.damon_control.specs.Spellable.{FitsCall, IsLiveSpellable}
 use Rattle.damon_control.specs.Text.{EachSays, SaySetup}
 use Rattle.damon_control.specs.WriteBack.{IsWritable}
-use Rattle.damon_control.proofs.SayPlaces.{TextLaws}
-use Rattle.damon_control.proofs.Says.{head_of-SaysHead}
+use Rattle.damon_control.proofs.Says.{head_of-SaysHead, live_of-IsLiveText}
 use Rattle.damon_control.proofs.SetupLimits.{SaySetup-InOrder, SaySetup-IsSetup}
 
 -- ---- the calls
@@ -36,23 +34,24 @@ controllers_fit version (group ∷ groups) [] each = absurd each
 -- ---- the setup
 
 -- lines say a seed and a setup within their types
-setup_writable : MakesEach → MakesInOrder → (lines : List (List ℕ)) (seed : ℕ) (setup : SetupValue) → SaySetup lines seed setup → IsWritable seed setup
-setup_writable each order lines seed setup says = record {
+setup_writable : (lines : List (List ℕ)) (seed : ℕ) (setup : SetupValue) → SaySetup lines seed setup → IsWritable seed setup
+setup_writable lines seed setup says = record {
   seed_fits = says.seed_fits;
   space = says.space;
-  setup = SaySetup-IsSetup each lines seed setup says;
-  order = SaySetup-InOrder order lines seed setup says;
+  setup = SaySetup-IsSetup lines seed setup says;
+  order = SaySetup-InOrder lines seed setup says;
   changes = says.changes;
 }
 
 -- what is read as a head can be written
-pub head_writable : MakesEach → MakesInOrder → TextLaws → HeadsAreWritable
-head_writable each order laws text h e = let says = head_of-SaysHead laws text h e in setup_writable each order says.setup h.seed h.setup says.says_setup
+pub heads_writable : (text : List ℕ) (h : HeadValue) → head_of text ≡ Ok h → IsWritable h.seed h.setup
+heads_writable text h e = let says = head_of-SaysHead text h e in setup_writable says.setup h.seed h.setup says.says_setup
 
--- a text says a live script that a text can spell
-pub IsLiveText-IsLiveSpellable : MakesEach → MakesInOrder → (text : List ℕ) (v : LiveValue) → IsLiveText text v → IsLiveSpellable v
-IsLiveText-IsLiveSpellable each order text v says =
+-- each text that is read as a live script gives one that a text can spell
+pub live_scripts_spellable : (text : List ℕ) (v : LiveValue) → live_of text ≡ Ok v → IsLiveSpellable v
+live_scripts_spellable text v read =
+    let says = live_of-IsLiveText text v read in
     record {
-      setup = setup_writable each order says.setup v.seed v.setup says.says_setup;
+      setup = setup_writable says.setup v.seed v.setup says.says_setup;
       calls = controllers_fit v.setup.version says.controllers v.controllers says.say_controllers;
     }

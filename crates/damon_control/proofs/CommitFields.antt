@@ -1,5 +1,5 @@
 -- The lines of a commit by its parts, one after another, and by its fields.
-use Rattle.std.proofs.Common.{◌≡◌, ⊎_elim, ◌∷◌, [], ◌++◌, ◌^◌, ◌<◌, ◌≤◌, ℕ, true, false, List, length, map, codes, Option, Some, None, refl, sym, ap, subst, ◌∙◌, append_assoc, arith, decimal, length-append}
+use Rattle.std.proofs.Common.{◌≡◌, ⊎_elim, ◌∷◌, [], ◌++◌, ◌^◌, ◌<◌, ◌≤◌, ℕ, true, false, List, length, map, codes, Option, Some, None, Ok, refl, sym, ap, subst, ◌∙◌, append_assoc, arith, decimal, length-append}
 use Rattle.std.specs.Prelude.{◌&&◌, All, Bool, IfSome}
 use Rattle.std.specs.List.{fold}
 use Rattle.std.specs.Option.{option_map_or, unwrap_or}
@@ -13,15 +13,18 @@ use Rattle.damon_types.specs.declared.scheme.Version.TheVariants.{One, Two}
 use Rattle.live_commit.specs.Commit.{CommitValue}
 use Rattle.script_lines.specs.declared.part.Part.{Part}
 use Rattle.script_lines.specs.declared.part.Part.TheVariants.{Attrs, Cost, Metric, Range, Slot}
-use Rattle.script_lines.specs.Body.{no_commit, with_part, with_range}
+use Rattle.script_lines.specs.Body.{no_commit, part_line, with_part, with_range}
 use Rattle.script_lines.specs.Fits.{FitsAttrs, FitsChange, FitsCost, FitsRange}
-use Rattle.script_lines.specs.Laws.{EmptiesSlot, GivesScheme, IsPart, ReadsOnlyParts, may_come}
-use Rattle.script_lines.specs.SchemeLine.{SchemesAreSaid, named}
+use Rattle.script_lines.specs.Laws.{EmptiesSlot, GivesScheme, IsPart, may_come}
+use Rattle.script_lines.specs.SchemeLine.{named}
 use Rattle.script_lines.specs.Spelling.{spelled_attrs, spelled_cost, spelled_range}
-use Rattle.damon_control.specs.CommitLines.{PartsKeepSpelling, come_in_order}
+use Rattle.damon_control.specs.CommitLines.{come_in_order}
+use Rattle.damon_control.specs.Live.{CommitCall}
+use Rattle.damon_control.specs.Spellable.{FitsCall}
 use Rattle.damon_control.specs.Text.{AreCommit, EachSays, SaysSlot}
 use Rattle.damon_control.specs.WriteBack.{FitsCommit, IsSpelledIn, SpellsRanges}
 use Rattle.damon_control.specs.Written.{part_given, parts_of, ranges_given}
+use Rattle.script_lines.proofs.Lemmas.{part_line-Ok}
 use Rattle.damon_control.proofs.PartsInOrder.{TimesAreIn, cost_is_in, parts_are, parts_in, times_are_in}
 use Rattle.damon_control.proofs.SchemesFit.{ChangeFits, empties_fits, gives_fits}
 use Rattle.damon_control.proofs.SlotLines.{empties_said, gives_said, slot_part}
@@ -84,12 +87,13 @@ part_in One line c (Cost cost) may is spelled = absurd cc
 
 -- what a text of this version can spell of a commit
 abbrev Spells : Version → CommitValue → Type 0
-Spells version c = FitsCommit c × SpellsRanges c × IsSpelledIn version c
+Spells version c = FitsCall version (CommitCall c)
 
 -- a part that is read after those of a commit that can be spelled
-pub parts_keep : ReadsOnlyParts → PartsKeepSpelling
-parts_keep laws version c line part read fits =
-    let is = laws version c line part read in
+pub parts_keep : (version : Version) (commit : CommitValue) (line : List ℕ) (part : Part) → part_line version commit line ≡ Ok part → FitsCall version (CommitCall commit)
+    → FitsCall version (CommitCall (with_part commit part))
+parts_keep version c line part read fits =
+    let is = part_line-Ok version c line part read in
     (part_fits version line c part is.1 fits.0, part_spelled c part fits.1, part_in version line c part is.0 is.1 fits.2)
 
 parts_fit : (version : Version) (c : CommitValue) (lines : List (List ℕ)) (parts : List Part) → EachSays (IsPart version) lines parts → come_in_order version c parts ≡ true → Spells version c → Spells version (fold with_part c parts)
@@ -104,8 +108,8 @@ nothing_spelled : (version : Version) → IsSpelledIn version no_commit
 nothing_spelled One = (refl, tt)
 nothing_spelled Two = tt
 
-pub no_commit-fits : (version : Version) → Spells version no_commit
-no_commit-fits version = (record { attrs_fit = tt; ranges_fit = tt; slot_fits = tt; metric_fits = tt; cost_fits = tt }, tt, nothing_spelled version)
+pub no_commit_fits : (version : Version) → FitsCall version (CommitCall no_commit)
+no_commit_fits version = (record { attrs_fit = tt; ranges_fit = tt; slot_fits = tt; metric_fits = tt; cost_fits = tt }, tt, nothing_spelled version)
 
 -- ---- the lines of each field
 
@@ -153,13 +157,13 @@ range_lines version (Some ranges) lines each = each_range version ranges lines e
 abbrev slot_in : Option SlotChange → List SlotChange
 slot_in slot = option_map_or (λ change. change ∷ []) slot []
 
-slot_lines : SchemesAreSaid → (version : Version) (slot : Option SlotChange) (lines : List (List ℕ)) → EachSays (IsPart version) lines (part_given (λ c. Slot c) slot) → EachSays SaysSlot lines (slot_in slot)
-slot_lines laws version None [] each = tt
-slot_lines laws version None (line ∷ lines) each = absurd each
-slot_lines laws version (Some c) [] each = absurd each
-slot_lines laws version (Some c) (line ∷ []) each =
-    (⊎_elim (λ (gives : GivesScheme version line c). gives_said laws version line c gives) (λ (empties : EmptiesSlot line c). empties_said line c empties) each.0, tt)
-slot_lines laws version (Some c) (line ∷ next ∷ lines) each = absurd each.1
+slot_lines : (version : Version) (slot : Option SlotChange) (lines : List (List ℕ)) → EachSays (IsPart version) lines (part_given (λ c. Slot c) slot) → EachSays SaysSlot lines (slot_in slot)
+slot_lines version None [] each = tt
+slot_lines version None (line ∷ lines) each = absurd each
+slot_lines version (Some c) [] each = absurd each
+slot_lines version (Some c) (line ∷ []) each =
+    (⊎_elim (λ (gives : GivesScheme version line c). gives_said version line c gives) (λ (empties : EmptiesSlot line c). empties_said line c empties) each.0, tt)
+slot_lines version (Some c) (line ∷ next ∷ lines) each = absurd each.1
 
 -- ---- by its parts, and by its fields
 
@@ -167,9 +171,9 @@ regroup : (a r s m k x : List (List ℕ)) → (a ++ (r ++ (s ++ (m ++ k)))) ++ x
 regroup a r s m k x = simp append_assoc
 
 -- lines whose parts make a commit say it
-pub commit_said : SchemesAreSaid → (version : Version) (lines : List (List ℕ)) (c : CommitValue) → AreParts version lines c → AreCommit version lines c
-commit_said laws version lines c are =
-    let spells : Spells version c = subst (Spells version) are.made (parts_fit version no_commit are.between are.parts are.each are.in_order (no_commit-fits version)) in
+pub commit_said : (version : Version) (lines : List (List ℕ)) (c : CommitValue) → AreParts version lines c → AreCommit version lines c
+commit_said version lines c are =
+    let spells : Spells version c = subst (Spells version) are.made (parts_fit version no_commit are.between are.parts are.each are.in_order (no_commit_fits version)) in
     let same : are.parts ≡ parts_of c = sym (parts_are version no_commit are.parts are.in_order) ∙ ap parts_of are.made in
     let each : EachSays (IsPart version) are.between (parts_of c) = subst (λ (ps : List Part). EachSays (IsPart version) are.between ps) same are.each in
     let attrs = split (IsPart version) are.between (part_given (λ a. Attrs a) c.attrs) _ each in
@@ -192,7 +196,7 @@ commit_said laws version lines c are =
           ∙ ap (λ ls. codes "commit" ∷ (ls ++ codes "apply" ∷ [])) all
           ∙ ap (λ ls. codes "commit" ∷ ls)
           (regroup (named [] spelled_attrs c.attrs) (map spelled_range (unwrap_or c.ranges [])) slot.front (named (codes "metric ") decimal c.metric) (named [] spelled_cost c.cost) (codes "apply" ∷ []));
-      says_slot = slot_lines laws version c.slot slot.front slot.each;
+      says_slot = slot_lines version c.slot slot.front slot.each;
       fits = spells.0;
       some_range = spells.1;
       in_version = spells.2;
@@ -210,13 +214,13 @@ ranges_part : (version : Version) (ranges : Option (List RangeSpec)) → IfSome 
 ranges_part version None fit = tt
 ranges_part version (Some ranges) fit = each_range_part version ranges fit
 
-slot_parts : SchemesAreSaid → (version : Version) (slot : Option SlotChange) (lines : List (List ℕ)) → EachSays SaysSlot lines (slot_in slot) → IfSome slot FitsChange → TimesAreIn version slot
+slot_parts : (version : Version) (slot : Option SlotChange) (lines : List (List ℕ)) → EachSays SaysSlot lines (slot_in slot) → IfSome slot FitsChange → TimesAreIn version slot
     → EachSays (IsPart version) lines (part_given (λ c. Slot c) slot)
-slot_parts laws version None [] each fits timed = tt
-slot_parts laws version None (line ∷ lines) each fits timed = absurd each
-slot_parts laws version (Some c) [] each fits timed = absurd each
-slot_parts laws version (Some c) (line ∷ []) each fits timed = (slot_part laws version line c each.0 fits timed, tt)
-slot_parts laws version (Some c) (line ∷ next ∷ lines) each fits timed = absurd each.1
+slot_parts version None [] each fits timed = tt
+slot_parts version None (line ∷ lines) each fits timed = absurd each
+slot_parts version (Some c) [] each fits timed = absurd each
+slot_parts version (Some c) (line ∷ []) each fits timed = (slot_part version line c each.0 fits timed, tt)
+slot_parts version (Some c) (line ∷ next ∷ lines) each fits timed = absurd each.1
 
 metric_part : (version : Version) (metric : Option ℕ) → IfSome metric (λ m. m < 2 ^ 32) → EachSays (IsPart version) (named (codes "metric ") decimal metric) (part_given (λ m. Metric m) metric)
 metric_part version None fit = tt
@@ -227,8 +231,8 @@ cost_part version None fit = tt
 cost_part version (Some p) fit = ((refl, fit), tt)
 
 -- lines that say a commit are those of parts that make it
-pub commit_parts : SchemesAreSaid → (version : Version) (lines : List (List ℕ)) (c : CommitValue) → AreCommit version lines c → AreParts version lines c
-commit_parts laws version lines c says =
+pub commit_parts : (version : Version) (lines : List (List ℕ)) (c : CommitValue) → AreCommit version lines c → AreParts version lines c
+commit_parts version lines c says =
     let are = parts_in version c.attrs c.ranges (record { slot = c.slot; metric = c.metric; cost = c.cost }) (cost_is_in version c says.in_version) says.some_range in
     let attrs = named [] spelled_attrs c.attrs in
     let ranges = map spelled_range (unwrap_or c.ranges []) in
@@ -241,7 +245,7 @@ commit_parts laws version lines c says =
       each =
           each_both (IsPart version) attrs _ (part_given (λ a. Attrs a) c.attrs) _ (attrs_part version c.attrs says.fits.attrs_fit)
           (each_both (IsPart version) ranges _ (ranges_given c.ranges) _ (ranges_part version c.ranges says.fits.ranges_fit)
-          (each_both (IsPart version) says.slot _ (part_given (λ s. Slot s) c.slot) _ (slot_parts laws version c.slot says.slot says.says_slot says.fits.slot_fits (times_are_in version c says.in_version))
+          (each_both (IsPart version) says.slot _ (part_given (λ s. Slot s) c.slot) _ (slot_parts version c.slot says.slot says.says_slot says.fits.slot_fits (times_are_in version c says.in_version))
           (each_both (IsPart version) metric cost (part_given (λ m. Metric m) c.metric) (part_given (λ p. Cost p) c.cost) (metric_part version c.metric says.fits.metric_fits) (cost_part version c.cost says.fits.cost_fits))));
       in_order = are.in_order;
       made = are.made;

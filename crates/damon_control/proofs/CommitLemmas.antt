@@ -54,14 +54,15 @@ few_with : (n : ℕ) (ranges : Option (List RangeSpec)) (r : RangeSpec) → IfSo
 few_with n None r few = omega arith
 few_with n (Some rs) r few = omega (arith, few, length-append rs (r ∷ []))
 
-few_more : (n : ℕ) (c : CommitValue) (part : Part) → IfSome c.ranges (λ rs. length rs ≤ n) → IfSome (with_part c part).ranges (λ rs. length rs ≤ n + 1)
+-- one part more is at most one range more
+pub few_more : (n : ℕ) (c : CommitValue) (part : Part) → IfSome c.ranges (λ rs. length rs ≤ n) → IfSome (with_part c part).ranges (λ rs. length rs ≤ n + 1)
 few_more n c (Attrs a) few = few_later n c.ranges few
 few_more n c (Range r) few = few_with n c.ranges r few
 few_more n c (Slot s) few = few_later n c.ranges few
 few_more n c (Metric m) few = few_later n c.ranges few
 few_more n c (Cost k) few = few_later n c.ranges few
 
--- one part more is at most one range more
+-- so it is in the view of them
 pub few_ranges : {L : Type 0} (list : L → List RangeSpec) (n : ℕ) (old new : Option L) (c : CommitValue) (part : Part) → option_map list old ≡ c.ranges → option_map list new ≡ (with_part c part).ranges
     → IfSome old (λ l. length (list l) ≤ n) → IfSome new (λ l. length (list l) ≤ n + 1)
 few_ranges list n old new c part before after few =

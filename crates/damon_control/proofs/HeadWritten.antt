@@ -10,18 +10,17 @@ use Rattle.live_commit.specs.Setup.{SetupValue}
 use Rattle.target_ranges.specs.Made.{IsPlaced, range_of, ranges_of}
 use Rattle.target_ranges.proofs.Lemmas.{IsGood, base_of_there, good_from}
 use Rattle.damon_control.specs.declared.grammar.Grammar.TheVariants.{OfJournal}
-use Rattle.damon_control.specs.JournalHead.{ReadsHeadsBack, ReadsOnlyHeads, head_lines}
-use Rattle.damon_control.specs.Script.{AtEnd, Place, header_of}
+use Rattle.damon_control.specs.JournalHead.{head_lines}
+use Rattle.damon_control.specs.Script.{AtEnd, HeadValue, Place, head_of, header_of}
 use Rattle.damon_control.specs.Text.{SaySetup}
+use Rattle.damon_control.specs.WriteBack.{IsWritable}
 use Rattle.damon_control.specs.Written.{number_lines, spec_of, written_setup}
 use Rattle.script_lines.specs.Lines.{lines_text}
 use Rattle.script_lines.specs.Spelling.{spelled_range, spelled_target}
-use Rattle.script_lines.specs.WriteBack.{ChangesAreReadBack}
 use Rattle.script_lines.specs.WrittenLine.{change_text}
-use Rattle.damon_control.proofs.Leading.{LeadLaws, Opens, led_read, setup_leads}
+use Rattle.damon_control.proofs.Leading.{Opens, led_read, setup_leads}
 use Rattle.damon_control.proofs.OneSpelling.{each_is_written}
 use Rattle.damon_control.proofs.ReadWritten.{written-SaySetup}
-use Rattle.damon_control.proofs.SayPlaces.{TextLaws}
 use Rattle.damon_control.proofs.Says.{head_of-SaysHead}
 use Rattle.damon_control.proofs.SpaceLimits.{each_accepted, target_there}
 use Rattle.damon_types.proofs.Lemmas.{place_from_held}
@@ -63,9 +62,9 @@ setup_written lines seed s says schemes =
     ∙ (λ i. numbers ++ (map spelled_target s.space ++ (ranges i ++ schemes i)))
 
 -- a head that is read is the one spelling of what it says
-pub head_spelled : TextLaws → ReadsOnlyHeads
-head_spelled laws text h e =
-    let says = head_of-SaysHead laws text h e in
+pub heads_read_only : (text : List ℕ) (h : HeadValue) → head_of text ≡ Ok h → text ≡ lines_text (head_lines h.seed h.setup)
+heads_read_only text h e =
+    let says = head_of-SaysHead text h e in
     let written = setup_written says.setup h.seed h.setup says.says_setup (each_is_written says.says_setup.schemes h.setup.slots says.in_spelling) in
     says.spelled ∙ ap (λ ls. lines_text (header_of OfJournal h.setup.version ∷ (ls ++ codes "begin" ∷ []))) written
 
@@ -84,8 +83,8 @@ begin_ends seed setup = record {
 }
 
 -- a head that is written is read as what it says
-pub head_read_back : LeadLaws → ChangesAreReadBack → ReadsHeadsBack
-head_read_back laws back seed s is =
-    let says = written-SaySetup laws.said back OfJournal seed s is in
-    led_read laws.apart OfJournal (head_lines seed s) (record { seed = seed; setup = s })
-    (setup_leads laws OfJournal seed s (written_setup seed s) (codes "begin") (ended seed s) [] says.0 says.1 (begin_ends seed s))
+pub heads_read_back : (seed : ℕ) (setup : SetupValue) → IsWritable seed setup → head_of (lines_text (head_lines seed setup)) ≡ Ok (record { seed = seed; setup = setup })
+heads_read_back seed s is =
+    let says = written-SaySetup OfJournal seed s is in
+    led_read OfJournal (head_lines seed s) (record { seed = seed; setup = s })
+    (setup_leads OfJournal seed s (written_setup seed s) (codes "begin") (ended seed s) [] says.0 says.1 (begin_ends seed s))

@@ -3,13 +3,13 @@ use Rattle.std.proofs.Common.{◌≡◌, ◌∷◌, [], ◌+◌, ◌<◌, ℕ, L
 use Rattle.std.specs.Prelude.{Result}
 use Rattle.std.proofs.lemmas.List.{length-append}
 use Rattle.std.proofs.lemmas.List.Elements.{All-append, All-from_recursion, All-nil}
-use Rattle.line_text.specs.Laws.{TakesApartPieces}
 use Rattle.line_text.specs.Parts.{IsPiece, joined, parts}
 use Rattle.damon_control.specs.declared.grammar.Grammar.{Grammar}
 use Rattle.script_lines.specs.declared.kind.ScriptKind.{ScriptKind}
 use Rattle.script_lines.specs.Refusal.{◌>>=◌}
 use Rattle.damon_control.specs.Script.{AtAttrs, AtCap, AtEnd, AtHeader, AtRanges, AtSchemes, AtSeed, AtTargets, AtUnit, InBody, InCommit, Place, Said, at, at_text_end, place_after, reads}
 use Rattle.script_lines.specs.Lines.{lines_text}
+use Rattle.line_text.proofs.Lemmas.{parts-joined}
 use Rattle.damon_control.proofs.PartLemmas.{reads_more}
 use Rattle.damon_control.proofs.Steps.{bind-Ok}
 use Rattle.std.specs.List.{flat_map}
@@ -91,14 +91,14 @@ joined_lines [] = refl
 joined_lines (line ∷ []) = refl
 joined_lines (line ∷ next ∷ more) = ap (λ text. line ++ 10 ∷ text) (joined_lines (next ∷ more))
 
-apart : TakesApartPieces → (pieces : List (List ℕ)) → 0 < length pieces → All (IsPiece 10) pieces → parts 10 (joined 10 pieces) ≡ pieces
-apart takes [] some each = absurd (omega arith)
-apart takes (first ∷ others) some each = takes 10 first others each
+apart : (pieces : List (List ℕ)) → 0 < length pieces → All (IsPiece 10) pieces → parts 10 (joined 10 pieces) ≡ pieces
+apart [] some each = absurd (omega arith)
+apart (first ∷ others) some each = parts-joined 10 first others each
 
 -- lines without an LF are taken apart again, and nothing is left after the last
-pub lines_apart : TakesApartPieces → (lines : List (List ℕ)) → All (IsPiece 10) lines → parts 10 (lines_text lines) ≡ lines ++ [] ∷ []
-lines_apart takes lines each =
+pub lines_apart : (lines : List (List ℕ)) → All (IsPiece 10) lines → parts 10 (lines_text lines) ≡ lines ++ [] ∷ []
+lines_apart lines each =
     let last : All (IsPiece 10) ([] ∷ []) = All-from_recursion (IsPiece 10) ([] ∷ []) (All-nil (λ c. c ≡ 10 → ⊥), tt) in
     let some : 0 < length (lines ++ [] ∷ []) = omega (arith, length-append lines ([] ∷ [])) in
     ap (parts 10) (sym (joined_lines lines))
-    ∙ apart takes (lines ++ [] ∷ []) some (All-append (IsPiece 10) lines ([] ∷ []) each last)
+    ∙ apart (lines ++ [] ∷ []) some (All-append (IsPiece 10) lines ([] ∷ []) each last)

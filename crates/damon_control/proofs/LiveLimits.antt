@@ -1,12 +1,13 @@
 -- What a live text says keeps the limits of a live script, and a text can spell it.
-use Rattle.std.proofs.Common.{◌∷◌, [], ℕ, List}
+use Rattle.std.proofs.Common.{◌≡◌, ◌∷◌, [], ℕ, List, Ok}
 use Rattle.std.specs.List.{AllByRecursion}
 use Rattle.damon_types.specs.declared.scheme.Version.{Version}
-use Rattle.target_ranges.specs.Laws.{MakesEach, MakesInOrder}
 use Rattle.damon_control.specs.Live.{CallValue, CommitCall, LiveValue, ShowCall}
-use Rattle.damon_control.specs.LiveText.{IsLiveText, SayCall, SayController}
+use Rattle.damon_control.specs.LiveText.{SayCall, SayController}
+use Rattle.damon_control.specs.Script.{live_of}
 use Rattle.damon_control.specs.Sound.{IsLiveSound, IsSpelledCall}
 use Rattle.damon_control.specs.Text.{EachSays}
+use Rattle.damon_control.proofs.Says.{live_of-IsLiveText}
 use Rattle.damon_control.proofs.SetupLimits.{SaySetup-InOrder, SaySetup-IsSetup}
 
 call_spelled : (version : Version) (lines : List (List ℕ)) (call : CallValue) → SayCall version lines call → IsSpelledCall call
@@ -27,12 +28,14 @@ controllers_spelled version (group ∷ groups) (calls ∷ controllers) each =
 controllers_spelled version [] (calls ∷ controllers) each = absurd each
 controllers_spelled version (group ∷ groups) [] each = absurd each
 
--- a text says a live script within its limits
-pub IsLiveText-IsLiveSound : MakesEach → MakesInOrder → (text : List ℕ) (v : LiveValue) → IsLiveText text v → IsLiveSound v
-IsLiveText-IsLiveSound each order text v says = record {
-  space = says.says_setup.space;
-  setup = SaySetup-IsSetup each says.setup v.seed v.setup says.says_setup;
-  order = SaySetup-InOrder order says.setup v.seed v.setup says.says_setup;
-  limits = says.limits;
-  spelled = controllers_spelled v.setup.version says.controllers v.controllers says.say_controllers;
-}
+-- each text that is read as a live script gives one within its limits
+pub live_scripts_sound : (text : List ℕ) (v : LiveValue) → live_of text ≡ Ok v → IsLiveSound v
+live_scripts_sound text v read =
+    let says = live_of-IsLiveText text v read in
+    record {
+      space = says.says_setup.space;
+      setup = SaySetup-IsSetup says.setup v.seed v.setup says.says_setup;
+      order = SaySetup-InOrder says.setup v.seed v.setup says.says_setup;
+      limits = says.limits;
+      spelled = controllers_spelled v.setup.version says.controllers v.controllers says.say_controllers;
+    }

@@ -3,7 +3,7 @@ use Rattle.std.proofs.Common.{◌≡◌, ◌∷◌, [], ◌+◌, ◌^◌, ◌<�
 use Rattle.std.specs.Prelude.{All, IfSome, IsSome, Option}
 use Rattle.std.specs.List.{AllByRecursion}
 use Rattle.std.proofs.lemmas.List.{append-nil, length-append, length-map}
-use Rattle.std.proofs.lemmas.List.Elements.{All-append, All-cons, All-head, All-nil, All-tail}
+use Rattle.std.proofs.lemmas.List.Elements.{All-cons, All-head, All-nil, All-tail}
 use Rattle.damon_types.specs.declared.attrs.Attrs.{Attrs}
 use Rattle.damon_types.specs.declared.range.RangeSpec.{RangeSpec}
 use Rattle.damon_types.specs.declared.scheme.CostPart.{CostPart}
@@ -12,7 +12,7 @@ use Rattle.damon_types.specs.declared.scheme.SlotChange.{SlotChange}
 use Rattle.damon_types.specs.declared.scheme.Version.{Version}
 use Rattle.damon_types.specs.Scheme.{checked_scheme, checked_time}
 use Rattle.damon_types.proofs.Lemmas.{both_ok}
-use Rattle.line_text.specs.Parts.{IsPiece, joined, parts}
+use Rattle.line_text.specs.Parts.{IsPiece, parts}
 use Rattle.live_commit.specs.Commit.{CommitValue}
 use Rattle.live_commit.specs.Setup.{SetupValue}
 use Rattle.live_commit.specs.Slots.{checked_after, checked_slot}
@@ -29,13 +29,12 @@ use Rattle.damon_control.specs.Script.{AtHeader, InBody, InCommit, Place, Within
 use Rattle.script_lines.specs.Spelling.{spelled_range, spelled_target}
 use Rattle.damon_control.specs.Text.{EachSays, SaySetup}
 use Rattle.script_lines.specs.Lines.{lines_text}
-use Rattle.script_lines.specs.WriteBack.{ChangesAreReadBack}
 use Rattle.damon_control.specs.WriteBack.{CommitsAreReadBack, FitsCommit, IsSpelledIn, IsWritable, LiveSetupsAreReadBack, MayCommit, SetupsAreReadBack}
 use Rattle.script_lines.specs.WrittenLine.{change_text}
 use Rattle.damon_control.specs.Written.{commit_text, number_lines, part_given, part_text, parts_of, ranges_given, setup_text, spec_of, written_commit, written_setup}
 use Rattle.line_text.proofs.Lemmas.{parts_some}
-use Rattle.script_lines.proofs.Lemmas.{lines_text-append, parts_before}
-use Rattle.damon_control.proofs.Leading.{LeadLaws, Opens, parts_lead, setup_leads}
+use Rattle.script_lines.proofs.Lemmas.{change_empties, change_gives, lines_text-append, parts_before}
+use Rattle.damon_control.proofs.Leading.{Opens, parts_lead, setup_leads}
 use Rattle.damon_control.proofs.LeadingLive.{passes_opens}
 use Rattle.damon_control.proofs.LeadingScript.{begin_opens}
 use Rattle.damon_control.proofs.Leads.{leads, leads-line}
@@ -46,18 +45,17 @@ use Rattle.damon_control.proofs.Steps.{bind-Ok}
 use Rattle.damon_control.proofs.WrittenRanges.{checked_written, ranges_again}
 use Rattle.damon_control.proofs.PartsInOrder.{TimesAreIn, cost_is_in, parts_in, times_are_in}
 use Rattle.damon_control.proofs.SlotLines.{each_gives_said, second_ok, set_sound}
-use Rattle.script_lines.specs.SchemeLine.{SchemesAreSaid}
 use Rattle.damon_control.proofs.SetupChecks.{checked_parts}
 
 -- ---- the lines of a setup
 
 -- changes that are accepted after others are written as they are
-changes_give : ChangesAreReadBack → (version : Version) (before changes : List SlotChange) → checked_after version before changes ≡ Ok tt → All (λ c. IsSome c.scheme) changes → All FitsChange changes
+changes_give : (version : Version) (before changes : List SlotChange) → checked_after version before changes ≡ Ok tt → All (λ c. IsSome c.scheme) changes → All FitsChange changes
     → EachSays (GivesScheme version) (map change_text changes) changes
-changes_give back version before [] sound set fit = tt
-changes_give back version before (c ∷ changes) sound set fit = (
+changes_give version before [] sound set fit = tt
+changes_give version before (c ∷ changes) sound set fit = (
   by c.scheme refl (All-head (λ (d : SlotChange). IsSome d.scheme) c changes set),
-  changes_give back version (before ++ c ∷ []) changes both.1 (All-tail (λ (d : SlotChange). IsSome d.scheme) c changes set) (All-tail FitsChange c changes fit),
+  changes_give version (before ++ c ∷ []) changes both.1 (All-tail (λ (d : SlotChange). IsSome d.scheme) c changes set) (All-tail FitsChange c changes fit),
 )
   where
     both : (checked_slot version (length before) before c ≡ Ok tt) × (checked_after version (before ++ c ∷ []) changes ≡ Ok tt)
@@ -66,7 +64,7 @@ changes_give back version before (c ∷ changes) sound set fit = (
     by : (scheme : Option Scheme) → c.scheme ≡ scheme → IsSome scheme → GivesScheme version (change_text c) c
     by None is some = absurd cc
     by (Some s) is some =
-        back.gives version c s is (All-head FitsChange c changes fit)
+        change_gives version c s is (All-head FitsChange c changes fit)
         (second_ok (checked_scheme c.slot s) (checked_time version s.quota) (set_sound version before c s is both.0))
 
 map_both : {A B C : Type 0} (f : B → C) (g : A → B) (xs : List A) → map (λ x. f (g x)) xs ≡ map f (map g xs)
@@ -74,8 +72,8 @@ map_both f g [] = refl
 map_both f g (x ∷ xs) = ap (λ ys. f (g x) ∷ ys) (map_both f g xs)
 
 -- the lines that are written of a setup say it, its schemes in the spelling that the grammar wants
-pub written-SaySetup : SchemesAreSaid → ChangesAreReadBack → (g : Grammar) (seed : ℕ) (s : SetupValue) → IsWritable seed s → (says : SaySetup (written_setup seed s) seed s) × EachSays (IsSpelledFor g) says.schemes s.slots
-written-SaySetup said back g seed s is =
+pub written-SaySetup : (g : Grammar) (seed : ℕ) (s : SetupValue) → IsWritable seed s → (says : SaySetup (written_setup seed s) seed s) × EachSays (IsSpelledFor g) says.schemes s.slots
+written-SaySetup g seed s is =
     let setup = is.setup in
     let specs = map (spec_of s.space) s.ranges in
     let count : length specs ≡ length s.ranges = length-map s.ranges (spec_of s.space) in
@@ -103,7 +101,7 @@ written-SaySetup said back g seed s is =
       set = setup.set;
       accepted = slots.accepted;
       changes = is.changes;
-      give = each_gives_said said s.version changes s.slots (changes_give back s.version [] s.slots setup.slots setup.set is.changes);
+      give = each_gives_said s.version changes s.slots (changes_give s.version [] s.slots setup.slots setup.set is.changes);
     } in
     (says, each_written_for g s.slots)
 
@@ -135,14 +133,14 @@ whole_text first others last rest =
     ∙ sym (append_assoc first (10 ∷ lines_text (others ++ last ∷ [])) rest)
 
 -- the lines of a setup and the one after them lead to the place that this one opens
-opening_read_back : LeadLaws → ChangesAreReadBack → (g : Grammar) (seed : ℕ) (s : SetupValue) (opening : List ℕ) (next : Place g) (rest : List ℕ) → IsWritable seed s → Opens g seed s opening next
+opening_read_back : (g : Grammar) (seed : ℕ) (s : SetupValue) (opening : List ℕ) (next : Place g) (rest : List ℕ) → IsWritable seed s → Opens g seed s opening next
     → reads g 1 AtHeader (parts 10 (header_of g s.version ++ (codes "\n" ++ (setup_text seed s ++ (opening ++ (codes "\n" ++ rest))))))
     ≡ reads g (3 + length (written_setup seed s)) next (parts 10 rest)
-opening_read_back laws back g seed s opening next rest is opens =
-    let says = written-SaySetup laws.said back g seed s is in
+opening_read_back g seed s opening next rest is opens =
+    let says = written-SaySetup g seed s is in
     let written = written_setup seed s in
     let lines = header_of g s.version ∷ (written ++ opening ∷ []) in
-    let lead : leads g AtHeader lines ≡ Ok next = setup_leads laws g seed s written opening next [] says.0 says.1 opens in
+    let lead : leads g AtHeader lines ≡ Ok next = setup_leads g seed s written opening next [] says.0 says.1 opens in
     let count : 1 + length lines ≡ 3 + length written = omega (arith, length-append written (opening ∷ [])) in
     ap (λ t. reads g 1 AtHeader (parts 10 t)) (whole_text (header_of g s.version) written opening rest)
     ∙ ap (reads g 1 AtHeader) (parts_before lines rest (leads-IsPiece g AtHeader lines next lead))
@@ -150,13 +148,13 @@ opening_read_back laws back g seed s opening next rest is opens =
     ∙ ap (λ n. reads g n next (parts 10 rest)) count
 
 -- the lines of a setup up to `begin` lead to its body
-pub setup_read_back : LeadLaws → ChangesAreReadBack → SetupsAreReadBack
-setup_read_back laws back seed s body is = opening_read_back laws back OfScript seed s (codes "begin") (InBody (begun seed s)) body is (begin_opens seed s)
+pub setup_read_back : SetupsAreReadBack
+setup_read_back seed s body is = opening_read_back OfScript seed s (codes "begin") (InBody (begun seed s)) body is (begin_opens seed s)
 
 -- the lines of a setup up to `passes` lead to its blocks
-pub live_setup_read_back : LeadLaws → ChangesAreReadBack → LiveSetupsAreReadBack
-live_setup_read_back laws back seed s passes blocks is some few =
-    opening_read_back laws back OfLive seed s (codes "passes " ++ decimal passes) (InBody (live_begun seed s passes)) blocks is (passes_opens laws.lines seed s passes some few)
+pub live_setup_read_back : LiveSetupsAreReadBack
+live_setup_read_back seed s passes blocks is some few =
+    opening_read_back OfLive seed s (codes "passes " ++ decimal passes) (InBody (live_begun seed s passes)) blocks is (passes_opens seed s passes some few)
 
 -- ---- a commit
 
@@ -184,13 +182,13 @@ ranges_said : (version : Version) (ranges : Option (List RangeSpec)) → IfSome 
 ranges_said version None fit = tt
 ranges_said version (Some ranges) fit = each_range_said version ranges fit
 
-slot_said : ChangesAreReadBack → (version : Version) (slot : Option SlotChange) → IfSome slot FitsChange → TimesAreIn version slot → AllByRecursion (IsSaid version) (part_given (λ c. Slot c) slot)
-slot_said back version None fits timed = tt
-slot_said back version (Some c) fits timed = (by c.scheme refl, tt)
+slot_said : (version : Version) (slot : Option SlotChange) → IfSome slot FitsChange → TimesAreIn version slot → AllByRecursion (IsSaid version) (part_given (λ c. Slot c) slot)
+slot_said version None fits timed = tt
+slot_said version (Some c) fits timed = (by c.scheme refl, tt)
   where
     by : (scheme : Option Scheme) → c.scheme ≡ scheme → IsSaid version (Slot c)
-    by None is = inr (back.empties c is fits)
-    by (Some s) is = inl (back.gives version c s is fits (rw is at timed))
+    by None is = inr (change_empties c is fits)
+    by (Some s) is = inl (change_gives version c s is fits (rw is at timed))
 
 metric_said : (version : Version) (metric : Option ℕ) → IfSome metric (λ m. m < 2 ^ 32) → AllByRecursion (IsSaid version) (part_given (λ m. Metric m) metric)
 metric_said version None fits = tt
@@ -200,8 +198,8 @@ cost_said : (version : Version) (cost : Option CostPart) → IfSome cost FitsCos
 cost_said version None fits = tt
 cost_said version (Some p) fits = ((refl, fits), tt)
 
-pub parts_said : ChangesAreReadBack → (version : Version) (c : CommitValue) → FitsCommit c → IsSpelledIn version c → AllByRecursion (IsSaid version) (parts_of c)
-parts_said back version c fits spelled =
+pub parts_said : (version : Version) (c : CommitValue) → FitsCommit c → IsSpelledIn version c → AllByRecursion (IsSaid version) (parts_of c)
+parts_said version c fits spelled =
     let attrs = part_given (λ a. AttrsPart a) c.attrs in
     let ranges = ranges_given c.ranges in
     let slot = part_given (λ s. Slot s) c.slot in
@@ -209,7 +207,7 @@ parts_said back version c fits spelled =
     let cost = part_given (λ p. Cost p) c.cost in
     said-append version attrs (ranges ++ (slot ++ (metric ++ cost))) (attrs_said version c.attrs fits.attrs_fit)
     (said-append version ranges (slot ++ (metric ++ cost)) (ranges_said version c.ranges fits.ranges_fit)
-    (said-append version slot (metric ++ cost) (slot_said back version c.slot fits.slot_fits (times_are_in version c spelled))
+    (said-append version slot (metric ++ cost) (slot_said version c.slot fits.slot_fits (times_are_in version c spelled))
     (said-append version metric cost (metric_said version c.metric fits.metric_fits) (cost_said version c.cost fits.cost_fits))))
 
 -- the first line of a commit
@@ -219,8 +217,8 @@ commit_opens OfLive v may = rw may refl
 commit_opens OfJournal none may = absurd none
 
 -- the text of a commit is read as it
-pub commit_read_back : LeadLaws → ChangesAreReadBack → CommitsAreReadBack
-commit_read_back laws back g b c n rest may fits some spelled =
+pub commit_read_back : CommitsAreReadBack
+commit_read_back g b c n rest may fits some spelled =
     let version = version_in g b in
     let written = written_commit c in
     let lines = codes "commit" ∷ written in
@@ -228,7 +226,7 @@ commit_read_back laws back g b c n rest may fits some spelled =
     let lead : leads g (InBody b) lines ≡ Ok (InCommit b c) =
     leads-line g (InBody b) (InCommit b no_commit) (codes "commit") written (commit_opens g b may)
     ∙ ap (leads g (InCommit b no_commit)) (sym (append-nil written))
-    ∙ parts_lead laws.lines g b no_commit written (parts_of c) [] (each_said version (parts_of c) (parts_said back version c fits spelled)) are.in_order
+    ∙ parts_lead g b no_commit written (parts_of c) [] (each_said version (parts_of c) (parts_said version c fits spelled)) are.in_order
     ∙ ap (λ d. Ok (InCommit b d)) are.made
     in
     let last = n + (1 + length written) in

@@ -12,7 +12,6 @@ use Rattle.damon_control.specs.declared.live.TheConstants.{MAX_CALLS, MAX_CONTRO
 use Rattle.script_lines.specs.declared.blocks.TheConstants.{MAX_TOUCHES}
 use Rattle.script_lines.specs.Body.{no_commit}
 use Rattle.script_lines.specs.Command.{CommandValue}
-use Rattle.damon_control.specs.LineLaws.{LineLaws}
 use Rattle.damon_control.specs.Live.{CallValue, LiveValue, ShowCall, call_within, controller_line, count_all, has_controller, show_line, to_last, touches_line, with_call, worker_line}
 use Rattle.script_lines.specs.Blocks.{block_line, touched, touches_within, touching}
 use Rattle.damon_control.specs.LiveText.{SayCall, SayController, SayWorker, SaysPages}
@@ -21,8 +20,9 @@ use Rattle.damon_control.specs.Script.{AtEnd, InBody, InCommit, Place, after_liv
 use Rattle.damon_control.specs.Text.{EachSays, all_lines}
 use Rattle.script_lines.specs.Lines.{lines_text}
 use Rattle.script_lines.specs.Words.{alone, begins_with}
+use Rattle.script_lines.proofs.Lemmas.{alone-Ok, sweep_line-pages, touch_line-page}
 use Rattle.damon_control.proofs.LiveLemmas.{count_all-more, none_of, some_of}
-use Rattle.damon_control.proofs.SayPlaces.{SayBlocks, Says, TextLaws, all_lines-more, both_ways, each_more, read_to}
+use Rattle.damon_control.proofs.SayPlaces.{SayBlocks, Says, all_lines-more, both_ways, each_more, read_to}
 use Rattle.damon_control.proofs.Steps.{bind-Ok, either_way, only_if-Ok}
 
 -- ---- the last of some lists
@@ -84,23 +84,23 @@ more_lines version lines setup passes blocks more is =
 -- ---- workers
 
 -- a line that is read as touches says their pages
-touching-Ok : (laws : LineLaws) (space : List Target) (line : List ℕ) (c : CommandValue) → touching space line ≡ Ok c → SaysPages space line (touched c)
-touching-Ok laws space line c e =
+touching-Ok : (space : List Target) (line : List ℕ) (c : CommandValue) → touching space line ≡ Ok c → SaysPages space line (touched c)
+touching-Ok space line c e =
     either_way (begins_with (codes "touch") line) _ _ _
-    (λ read. let said = laws.touch space line c read in inl (said.0, sym (ap touched said.1), said.2))
-    (λ read. let said = laws.sweep space line c read in inr (said.0, said.1, sym (ap touched said.2), said.3)) e
+    (λ read. let said = touch_line-page space line c read in inl (said.0, sym (ap touched said.1), said.2))
+    (λ read. let said = sweep_line-pages space line c read in inr (said.0, said.1, sym (ap touched said.2), said.3)) e
 
 -- a line that is read as touches within the limit of all touches
 record SayTouches (space : List Target) (line : List ℕ) (before : ℕ) (pages : List ℕ) : Type 0 where
   says : SaysPages space line pages
   few : before + length pages ≤ MAX_TOUCHES
 
-touches_within-Ok : (laws : LineLaws) (space : List Target) (line : List ℕ) (before : ℕ) (pages : List ℕ) → touches_within space line before ≡ Ok pages → SayTouches space line before pages
-touches_within-Ok laws space line before pages e =
+touches_within-Ok : (space : List Target) (line : List ℕ) (before : ℕ) (pages : List ℕ) → touches_within space line before ≡ Ok pages → SayTouches space line before pages
+touches_within-Ok space line before pages e =
     let command = bind-Ok (touching space line) _ pages e in
     let passes = only_if-Ok (nat_le (before + length (touched command.0)) MAX_TOUCHES) TooMuch (touched command.0) pages command.2 in
     subst (SayTouches space line before) passes.1 (record {
-      says = touching-Ok laws space line command.0 command.1;
+      says = touching-Ok space line command.0 command.1;
       few = grind (arith, nat_tests, passes.0);
     })
 
@@ -132,13 +132,13 @@ no_lines v groups each none =
 some_workers : (v : LiveValue) → (length v.workers == 0) ≡ false → 1 ≤ length v.workers
 some_workers v some = grind (arith, nat_tests)
 
-more_touches : (laws : TextLaws) (lines : List (List ℕ)) (v : LiveValue) (line : List ℕ) (w : LiveValue) → SayBlocks lines v → has_controller v ≡ false → touches_line v line ≡ Ok w → SayBlocks (lines ++ line ∷ []) w
-more_touches laws lines v line w before none e = both_ways (length v.workers == 0) _ _ _ (λ _ no. absurd cc) past e
+more_touches : (lines : List (List ℕ)) (v : LiveValue) (line : List ℕ) (w : LiveValue) → SayBlocks lines v → has_controller v ≡ false → touches_line v line ≡ Ok w → SayBlocks (lines ++ line ∷ []) w
+more_touches lines v line w before none e = both_ways (length v.workers == 0) _ _ _ (λ _ no. absurd cc) past e
   where
     past : (length v.workers == 0) ≡ false → (touches_within v.setup.space line (count_all v.workers) >>= λ pages. Ok (record v { workers = to_last v.workers pages })) ≡ Ok w
         → SayBlocks (lines ++ line ∷ []) w
     past some = read_to (SayBlocks (lines ++ line ∷ [])) (touches_within v.setup.space line (count_all v.workers)) (λ pages. record v { workers = to_last v.workers pages }) w (λ pages read.
-        let said = touches_within-Ok laws.lines v.setup.space line (count_all v.workers) pages read in
+        let said = touches_within-Ok v.setup.space line (count_all v.workers) pages read in
         let at_least = some_workers v some in
         let groups : 1 ≤ length before.workers = omega (arith, at_least, same_number (SayWorker v.setup.space) before.workers v.workers before.say_workers) in
         record {
@@ -167,16 +167,16 @@ record BeginsBlock (word line : List ℕ) (count most : ℕ) : Type 0 where
   is : line ≡ word
   few : count < most
 
-block_line-Ok : (laws : LineLaws) (word line : List ℕ) (count most : ℕ) (t : Unit {0}) → block_line word line count most ≡ Ok t → BeginsBlock word line count most
-block_line-Ok laws word line count most t e =
+block_line-Ok : (word line : List ℕ) (count most : ℕ) (t : Unit {0}) → block_line word line count most ≡ Ok t → BeginsBlock word line count most
+block_line-Ok word line count most t e =
     let word_is = bind-Ok (alone word line) _ t e in
     let passes = only_if-Ok (nat_lt count most) Limit (tt {0}) t word_is.2 in
-    record { is = laws.word word line word_is.1; few = grind (arith, nat_tests, passes.0) }
+    record { is = alone-Ok word line word_is.1; few = grind (arith, nat_tests, passes.0) }
 
-more_workers : (laws : TextLaws) (lines : List (List ℕ)) (v : LiveValue) (line : List ℕ) (w : LiveValue) → SayBlocks lines v → has_controller v ≡ false → worker_line v line ≡ Ok w → SayBlocks (lines ++ line ∷ []) w
-more_workers laws lines v line w before none =
+more_workers : (lines : List (List ℕ)) (v : LiveValue) (line : List ℕ) (w : LiveValue) → SayBlocks lines v → has_controller v ≡ false → worker_line v line ≡ Ok w → SayBlocks (lines ++ line ∷ []) w
+more_workers lines v line w before none =
     read_to (SayBlocks (lines ++ line ∷ [])) (block_line (codes "worker") line (length v.workers) MAX_WORKERS) (λ _. record v { workers = v.workers ++ [] ∷ [] }) w (λ t read.
-    let begins = block_line-Ok laws.lines (codes "worker") line (length v.workers) MAX_WORKERS t read in
+    let begins = block_line-Ok (codes "worker") line (length v.workers) MAX_WORKERS t read in
     record {
       setup = before.setup;
       workers = before.workers ++ (line ∷ []) ∷ [];
@@ -201,10 +201,10 @@ more_workers laws lines v line w before none =
 
 -- ---- controllers
 
-more_controllers : (laws : TextLaws) (lines : List (List ℕ)) (v : LiveValue) (line : List ℕ) (w : LiveValue) → SayBlocks lines v → controller_line v line ≡ Ok w → SayBlocks (lines ++ line ∷ []) w
-more_controllers laws lines v line w before =
+more_controllers : (lines : List (List ℕ)) (v : LiveValue) (line : List ℕ) (w : LiveValue) → SayBlocks lines v → controller_line v line ≡ Ok w → SayBlocks (lines ++ line ∷ []) w
+more_controllers lines v line w before =
     read_to (SayBlocks (lines ++ line ∷ [])) (block_line (codes "controller") line (length v.controllers) MAX_CONTROLLERS) (λ _. record v { controllers = v.controllers ++ [] ∷ [] }) w (λ t read.
-    let begins = block_line-Ok laws.lines (codes "controller") line (length v.controllers) MAX_CONTROLLERS t read in
+    let begins = block_line-Ok (codes "controller") line (length v.controllers) MAX_CONTROLLERS t read in
     record {
       setup = before.setup;
       workers = before.workers;
@@ -270,14 +270,14 @@ more_call lines front v group call next before has_one is says = read_to (Says O
 
 -- ---- a line of the blocks
 
-pub in_blocks : (laws : TextLaws) (lines : List (List ℕ)) (v : LiveValue) (line : List ℕ) (next : Place OfLive) → SayBlocks lines v → after_live v line ≡ Ok next → Says OfLive (lines ++ line ∷ []) next
-in_blocks laws lines v line next before e =
+pub in_blocks : (lines : List (List ℕ)) (v : LiveValue) (line : List ℕ) (next : Place OfLive) → SayBlocks lines v → after_live v line ≡ Ok next → Says OfLive (lines ++ line ∷ []) next
+in_blocks lines v line next before e =
     either_way (begins_with (codes "end") line) _ _ _ at_end
-    (either_way (begins_with (codes "controller") line) _ _ _ (read_to (Says OfLive (lines ++ line ∷ [])) (controller_line v line) (λ w. InBody w) next (λ w. more_controllers laws lines v line w before))
+    (either_way (begins_with (codes "controller") line) _ _ _ (read_to (Says OfLive (lines ++ line ∷ [])) (controller_line v line) (λ w. InBody w) next (λ w. more_controllers lines v line w before))
     (both_ways (has_controller v) _ _ _ (λ has_one. either_way (begins_with (codes "commit") line) _ _ _ (at_commit has_one) (at_show has_one))
     (λ none. either_way (begins_with (codes "worker") line) _ _ _
-    (read_to (Says OfLive (lines ++ line ∷ [])) (worker_line v line) (λ w. InBody w) next (λ w. more_workers laws lines v line w before none))
-    (read_to (Says OfLive (lines ++ line ∷ [])) (touches_line v line) (λ w. InBody w) next (λ w. more_touches laws lines v line w before none))))) e
+    (read_to (Says OfLive (lines ++ line ∷ [])) (worker_line v line) (λ w. InBody w) next (λ w. more_workers lines v line w before none))
+    (read_to (Says OfLive (lines ++ line ∷ [])) (touches_line v line) (λ w. InBody w) next (λ w. more_touches lines v line w before none))))) e
   where
     at_end : (alone (codes "end") line >>= λ _. Ok (AtEnd v)) ≡ Ok next → Says OfLive (lines ++ line ∷ []) next
     at_end = read_to (Says OfLive (lines ++ line ∷ [])) (alone (codes "end") line) (λ _. AtEnd v) next (λ t read. record {
@@ -285,7 +285,7 @@ in_blocks laws lines v line next before e =
       workers = before.workers;
       controllers = before.controllers;
       spelled =
-          ap lines_text (ap (λ l. lines ++ l ∷ []) (laws.lines.word (codes "end") line read)
+          ap lines_text (ap (λ l. lines ++ l ∷ []) (alone-Ok (codes "end") line read)
           ∙ more_lines v.setup.version lines before.setup v.passes (all_lines before.workers ++ all_lines before.controllers) (codes "end" ∷ []) before.spelled
           ∙ ap (live_lines v.setup.version before.setup v.passes) (append_assoc (all_lines before.workers) (all_lines before.controllers) (codes "end" ∷ [])));
       says_setup = before.says_setup;
@@ -299,7 +299,7 @@ in_blocks laws lines v line next before e =
       front = lines;
       between = [];
       parts = [];
-      spelled = λ i. lines ++ laws.lines.word (codes "commit") line read i ∷ [];
+      spelled = λ i. lines ++ alone-Ok (codes "commit") line read i ∷ [];
       body = before;
       begins = has_one;
       each = tt;
@@ -312,4 +312,4 @@ in_blocks laws lines v line next before e =
         let shown = bind-Ok (show_line v line) (λ w. Ok (InBody w)) next read in
         let word = bind-Ok (alone (codes "show") line) (λ _. with_call v ShowCall) shown.0 shown.1 in
         let called : live_within (with_call v ShowCall) ≡ Ok next = ap live_within word.2 ∙ shown.2 in
-        more_call (lines ++ line ∷ []) lines v (line ∷ []) ShowCall next before has_one refl (ap (λ l. l ∷ []) (laws.lines.word (codes "show") line word.1)) called
+        more_call (lines ++ line ∷ []) lines v (line ∷ []) ShowCall next before has_one refl (ap (λ l. l ∷ []) (alone-Ok (codes "show") line word.1)) called

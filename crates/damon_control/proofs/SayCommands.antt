@@ -11,7 +11,8 @@ use Rattle.damon_control.specs.Script.{AtEnd, Body, InBody, InCommit, Place, aft
 use Rattle.damon_control.specs.Text.{SayCommand, all_lines}
 use Rattle.script_lines.specs.Lines.{lines_text}
 use Rattle.script_lines.specs.Words.{alone, begins_with}
-use Rattle.damon_control.proofs.SayPlaces.{SayBody, Says, TextLaws, all_lines-more, each_more, read_to, work-more}
+use Rattle.script_lines.proofs.Lemmas.{alone-Ok, command_line-Ok}
+use Rattle.damon_control.proofs.SayPlaces.{SayBody, Says, all_lines-more, each_more, read_to, work-more}
 use Rattle.damon_control.proofs.Steps.{bind-Ok, either_way, only_if-Ok}
 use Rattle.damon_control.proofs.Leads.{lines_joined}
 
@@ -35,8 +36,8 @@ more_command lines front b group command next before is says e =
       work = grind (arith, nat_tests, passes.0);
     })
 
-pub in_body : (laws : TextLaws) (lines : List (List ℕ)) (b : Body) (line : List ℕ) (next : Place OfScript) → SayBody lines b → after_body b line ≡ Ok next → Says OfScript (lines ++ line ∷ []) next
-in_body laws lines b line next before e =
+pub in_body : (lines : List (List ℕ)) (b : Body) (line : List ℕ) (next : Place OfScript) → SayBody lines b → after_body b line ≡ Ok next → Says OfScript (lines ++ line ∷ []) next
+in_body lines b line next before e =
     either_way (begins_with (codes "end") line) _ _ _ at_end (either_way (begins_with (codes "commit") line) _ _ _ at_commit at_command) e
   where
     at_end : (alone (codes "end") line >>= λ _. Ok (AtEnd b.said)) ≡ Ok next → Says OfScript (lines ++ line ∷ []) next
@@ -44,7 +45,7 @@ in_body laws lines b line next before e =
       setup = before.setup;
       commands = before.commands;
       spelled =
-          ap lines_text ((λ i. before.spelled i ++ laws.lines.word (codes "end") line read i ∷ [])
+          ap lines_text ((λ i. before.spelled i ++ alone-Ok (codes "end") line read i ∷ [])
           ∙ ap (λ ls. header_of OfScript b.said.setup.version ∷ ls) (append_assoc before.setup (codes "begin" ∷ all_lines before.commands) (codes "end" ∷ [])))
           ∙ lines_joined (header_of OfScript b.said.setup.version ∷ (before.setup ++ codes "begin" ∷ (all_lines before.commands ++ codes "end" ∷ [])));
       says_setup = before.says_setup;
@@ -57,7 +58,7 @@ in_body laws lines b line next before e =
       front = lines;
       between = [];
       parts = [];
-      spelled = λ i. lines ++ laws.lines.word (codes "commit") line read i ∷ [];
+      spelled = λ i. lines ++ alone-Ok (codes "commit") line read i ∷ [];
       body = before;
       begins = tt;
       each = tt;
@@ -68,5 +69,5 @@ in_body laws lines b line next before e =
     at_command : (command_line b.said.setup.space line >>= with_command b) ≡ Ok next → Says OfScript (lines ++ line ∷ []) next
     at_command read =
         let command = bind-Ok (command_line b.said.setup.space line) (with_command b) (next) read in
-        let says = laws.lines.command b.said.setup.space line command.0 command.1 in
+        let says = command_line-Ok b.said.setup.space line command.0 command.1 in
         more_command (lines ++ line ∷ []) lines b (line ∷ []) command.0 next before refl (inl (line, refl, says)) command.2

@@ -10,10 +10,8 @@ use Rattle.damon_types.specs.declared.space.Target.{Target}
 use Rattle.damon_types.specs.Space.{checked}
 use Rattle.live_commit.specs.Checked.{checked_cap, checked_limits, checked_unit}
 use Rattle.live_commit.specs.Commit.{CommitValue}
-use Rattle.live_commit.specs.Laws.{ChecksInTurn}
 use Rattle.live_commit.specs.Setup.{SetupValue}
 use Rattle.target_ranges.specs.Checked.{checked_ranges}
-use Rattle.target_ranges.specs.Laws.{ChecksOneMore}
 use Rattle.script_lines.specs.declared.part.Part.{Part}
 use Rattle.script_lines.specs.declared.kind.ScriptKind.{ScriptKind}
 use Rattle.damon_control.specs.declared.grammar.Grammar.{Grammar}
@@ -24,7 +22,6 @@ use Rattle.script_lines.specs.Body.{no_commit, with_part}
 use Rattle.script_lines.specs.Command.{CommandValue, weight, work_of}
 use Rattle.script_lines.specs.Head.{setup_said}
 use Rattle.script_lines.specs.Laws.{IsPart, may_come}
-use Rattle.damon_control.specs.LineLaws.{LineLaws}
 use Rattle.damon_control.specs.Live.{LiveValue}
 use Rattle.damon_control.specs.LiveText.{IsLiveText, KeepsLimits, SayController, SayWorker}
 use Rattle.script_lines.specs.Refusal.{◌>>=◌}
@@ -36,12 +33,6 @@ use Rattle.damon_control.specs.WriteBack.{MayCommit}
 use Rattle.damon_control.proofs.OneSpelling.{IsSpelledFor}
 use Rattle.damon_control.proofs.Steps.{bind-Ok}
 use Rattle.damon_control.specs.CommitLines.{come_in_order}
-
--- what is known of lines, and of the checks of ranges and slots
-pub record TextLaws : Type 0 where
-  pub lines : LineLaws
-  pub ranges : ChecksOneMore
-  pub slots : ChecksInTurn
 
 -- the first line, those of a frame, and others after them
 abbrev pub frame_lines : Grammar → Frame → List (List ℕ) → List (List ℕ)

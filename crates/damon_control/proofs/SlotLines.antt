@@ -11,14 +11,14 @@ use Rattle.damon_types.specs.declared.scheme.SchemeFault.{SchemeFault}
 use Rattle.damon_types.specs.Faults.{fault_as}
 use Rattle.damon_types.specs.Scheme.{checked_in, checked_scheme, checked_time}
 use Rattle.damon_types.proofs.Lemmas.{both_ok}
-use Rattle.live_commit.specs.declared.fault.SetupFault.{SetupFault}
 use Rattle.live_commit.specs.declared.fault.SetupFault.TheVariants.{BadScheme, RepeatedSlot}
 use Rattle.live_commit.specs.Slots.{checked_after, checked_slot, is_set}
 use Rattle.script_lines.specs.declared.part.Part.TheVariants.{Slot}
 use Rattle.script_lines.specs.Fits.{FitsChange, FitsScheme}
 use Rattle.script_lines.specs.Laws.{EmptiesSlot, GivesScheme, IsPart}
-use Rattle.script_lines.specs.SchemeLine.{SaysScheme, SchemesAreSaid}
+use Rattle.script_lines.specs.SchemeLine.{SaysScheme}
 use Rattle.damon_control.specs.Text.{EachSays, SaysSlot}
+use Rattle.script_lines.proofs.Lemmas.{scheme_said, scheme_set}
 use Rattle.damon_control.proofs.PartsInOrder.{HasTimeIn}
 
 -- ---- what is known of changes that are accepted
@@ -46,9 +46,9 @@ second_ok (Err e) s ok = absurd cc
 -- ---- what their lines say
 
 -- a line that gives a slot its scheme says it
-pub gives_said : SchemesAreSaid → (version : Version) (line : List ℕ) (c : SlotChange) → GivesScheme version line c → SaysSlot line c
-gives_said laws version line c gives =
-    subst (λ (o : Option Scheme). MatchOption o (line ≡ codes "drop " ++ decimal c.slot) (SaysScheme line c.slot)) (sym gives.1) (laws.said version line c.slot gives.0 gives.2)
+pub gives_said : (version : Version) (line : List ℕ) (c : SlotChange) → GivesScheme version line c → SaysSlot line c
+gives_said version line c gives =
+    subst (λ (o : Option Scheme). MatchOption o (line ≡ codes "drop " ++ decimal c.slot) (SaysScheme line c.slot)) (sym gives.1) (scheme_said version line c.slot gives.0 gives.2)
 
 -- a line that empties a slot says it
 pub empties_said : (line : List ℕ) (c : SlotChange) → EmptiesSlot line c → SaysSlot line c
@@ -56,28 +56,28 @@ empties_said line c empties =
     subst (λ (o : Option Scheme). MatchOption o (line ≡ codes "drop " ++ decimal c.slot) (SaysScheme line c.slot)) (sym empties.0) empties.1
 
 -- lines that give slots their schemes say them
-pub each_gives_said : SchemesAreSaid → (version : Version) (lines : List (List ℕ)) (changes : List SlotChange) → EachSays (GivesScheme version) lines changes → EachSays SaysSlot lines changes
-each_gives_said laws version [] [] each = tt
-each_gives_said laws version (line ∷ lines) (c ∷ changes) each = (gives_said laws version line c each.0, each_gives_said laws version lines changes each.1)
-each_gives_said laws version [] (c ∷ changes) each = absurd each
-each_gives_said laws version (line ∷ lines) [] each = absurd each
+pub each_gives_said : (version : Version) (lines : List (List ℕ)) (changes : List SlotChange) → EachSays (GivesScheme version) lines changes → EachSays SaysSlot lines changes
+each_gives_said version [] [] each = tt
+each_gives_said version (line ∷ lines) (c ∷ changes) each = (gives_said version line c each.0, each_gives_said version lines changes each.1)
+each_gives_said version [] (c ∷ changes) each = absurd each
+each_gives_said version (line ∷ lines) [] each = absurd each
 
 -- a line that says a change is that of a slot change of a commit
-pub slot_part : SchemesAreSaid → (version : Version) (line : List ℕ) (c : SlotChange) → SaysSlot line c → FitsChange c → HasTimeIn version c.scheme → IsPart version line (Slot c)
-slot_part laws version line c says fits timed = by c.scheme refl says fits.fits timed
+pub slot_part : (version : Version) (line : List ℕ) (c : SlotChange) → SaysSlot line c → FitsChange c → HasTimeIn version c.scheme → IsPart version line (Slot c)
+slot_part version line c says fits timed = by c.scheme refl says fits.fits timed
   where
     by : (scheme : Option Scheme) → c.scheme ≡ scheme → MatchOption scheme (line ≡ codes "drop " ++ decimal c.slot) (SaysScheme line c.slot) → IfSome scheme FitsScheme → HasTimeIn version scheme
         → IsPart version line (Slot c)
     by None is says fit timed = inr (is, says, fits.small)
-    by (Some s) is says fit timed = inl (s, is, laws.set version line c.slot s says fits.small fit timed)
+    by (Some s) is says fit timed = inl (s, is, scheme_set version line c.slot s says fits.small fit timed)
 
 -- lines that say changes which are accepted after others give slots their schemes
-pub said_gives : SchemesAreSaid → (version : Version) (before : List SlotChange) (lines : List (List ℕ)) (changes : List SlotChange) → EachSays SaysSlot lines changes → All (λ c. IsSome c.scheme) changes → All FitsChange changes
+pub said_gives : (version : Version) (before : List SlotChange) (lines : List (List ℕ)) (changes : List SlotChange) → EachSays SaysSlot lines changes → All (λ c. IsSome c.scheme) changes → All FitsChange changes
     → checked_after version before changes ≡ Ok tt → EachSays (GivesScheme version) lines changes
-said_gives laws version before [] [] each set fit ok = tt
-said_gives laws version before (line ∷ lines) (c ∷ changes) each set fit ok = (
+said_gives version before [] [] each set fit ok = tt
+said_gives version before (line ∷ lines) (c ∷ changes) each set fit ok = (
   by c.scheme refl (All-head (λ (d : SlotChange). IsSome d.scheme) c changes set) each.0 (All-head FitsChange c changes fit).fits,
-  said_gives laws version (before ++ c ∷ []) lines changes each.1 (All-tail (λ (d : SlotChange). IsSome d.scheme) c changes set) (All-tail FitsChange c changes fit) both.1,
+  said_gives version (before ++ c ∷ []) lines changes each.1 (All-tail (λ (d : SlotChange). IsSome d.scheme) c changes set) (All-tail FitsChange c changes fit) both.1,
 )
   where
     both : (checked_slot version (length before) before c ≡ Ok tt) × (checked_after version (before ++ c ∷ []) changes ≡ Ok tt)
@@ -87,6 +87,6 @@ said_gives laws version before (line ∷ lines) (c ∷ changes) each set fit ok 
     by None is some says fits = absurd cc
     by (Some s) is some says fits =
         let timed = second_ok (checked_scheme c.slot s) (checked_time version s.quota) (set_sound version before c s is both.0) in
-        (s, is, laws.set version line c.slot s says (All-head FitsChange c changes fit).small fits timed)
-said_gives laws version before [] (c ∷ changes) each set fit ok = absurd each
-said_gives laws version before (line ∷ lines) [] each set fit ok = absurd each
+        (s, is, scheme_set version line c.slot s says (All-head FitsChange c changes fit).small fits timed)
+said_gives version before [] (c ∷ changes) each set fit ok = absurd each
+said_gives version before (line ∷ lines) [] each set fit ok = absurd each

@@ -1,19 +1,17 @@
 -- Targets that are accepted, and ranges that are accepted in them, keep the limits of a space and of a setup.
-use Rattle.std.proofs.Common.{◌≡◌, ℕ, zero, suc, ◌+◌, ◌-◌, ◌/◌, ◌%◌, ◌^◌, ◌≤◌, ◌<◌, ◌==◌, Bool, true, false, not, nat_le, nat_lt, List, [], ◌∷◌, ◌++◌, length, take, Ok, Err, Some, None, refl, ap, subst, arith, add-one}
-use Rattle.std.specs.Prelude.{All, Option, Result, slice_get, if◌then◌else◌, ◌&&◌, ◌*◌, slice_index, map}
+use Rattle.std.proofs.Common.{◌≡◌, ℕ, zero, suc, ◌+◌, ◌-◌, ◌^◌, ◌≤◌, ◌<◌, ◌==◌, Bool, true, false, nat_le, nat_lt, List, [], ◌∷◌, ◌++◌, length, Ok, Err, Some, refl, subst, arith}
+use Rattle.std.specs.Prelude.{All, Option, Result, slice_get, if◌then◌else◌}
 use Rattle.std.specs.List.{AllByRecursion}
-use Rattle.std.specs.Result.{result_and}
 use Rattle.std.proofs.lemmas.Bool.Decides.{nat_tests}
 use Rattle.std.proofs.lemmas.List.{length-append}
-use Rattle.std.proofs.lemmas.List.Elements.{All-from_recursion, All-map}
-use Rattle.std.proofs.lemmas.List.Sums.{sum_by-append, sum_by-cons}
+use Rattle.std.proofs.lemmas.List.Elements.{All-from_recursion}
+use Rattle.std.proofs.lemmas.List.Sums.{sum_by-append}
 use Rattle.std.proofs.lemmas.Option.{slice_get_within}
 use Rattle.damon_types.specs.declared.range.Range.{Range}
 use Rattle.damon_types.specs.declared.range.RangeSpec.{RangeSpec}
-use Rattle.damon_types.specs.declared.space.SpaceFault.{SpaceFault}
 use Rattle.damon_types.specs.declared.space.SpaceFault.TheVariants.{NoTarget, TooManyTargets, TooManyPages}
 use Rattle.damon_types.specs.declared.space.Target.{Target}
-use Rattle.damon_types.specs.Space.{IsSpace, IsTarget, checked, checked_targets_from, checked_target, offset, pages_of}
+use Rattle.damon_types.specs.Space.{IsSpace, IsTarget, checked, checked_targets_from, checked_target, pages_of}
 use Rattle.damon_types.specs.Within.{LiesInTarget}
 use Rattle.damon_types.proofs.Lemmas.{both_ok}
 use Rattle.target_ranges.specs.Checked.{checked_range, checked_ranges}

@@ -1,5 +1,5 @@
 -- The ranges of a setup by their addresses: they are accepted, and make these ranges again.
-use Rattle.std.proofs.Common.{◌≡◌, ℕ, zero, suc, ◌+◌, ◌-◌, ◌*◌, ◌%◌, ◌<◌, ◌≤◌, ◌==◌, ◌&&◌, Bool, true, false, not, nat_le, nat_lt, List, [], ◌∷◌, length, map, get_or, Some, None, Ok, refl, sym, ap, ◌∙◌, arith, add-one}
+use Rattle.std.proofs.Common.{◌≡◌, ℕ, ◌+◌, ◌-◌, ◌*◌, ◌%◌, ◌<◌, ◌≤◌, ◌==◌, ◌&&◌, Bool, true, false, not, nat_le, nat_lt, List, [], ◌∷◌, length, map, get_or, Some, None, Ok, refl, sym, ap, ◌∙◌, arith, add-one}
 use Rattle.std.specs.Prelude.{All, Option, slice_get}
 use Rattle.std.proofs.lemmas.Bool.Decides.{nat_tests}
 use Rattle.std.proofs.lemmas.List.Elements.{All-head, All-tail, All-get_or}
@@ -9,7 +9,7 @@ use Rattle.damon_types.specs.declared.range.RangeSpec.{RangeSpec}
 use Rattle.damon_types.specs.declared.space.Place.{Place}
 use Rattle.damon_types.specs.declared.space.Target.{Target}
 use Rattle.damon_types.specs.Ranges.{OrderedFrom, end_of}
-use Rattle.damon_types.specs.Space.{IsSpace, IsTarget, offset, place_from}
+use Rattle.damon_types.specs.Space.{IsSpace, IsTarget, offset}
 use Rattle.damon_types.specs.Within.{LiesInTarget}
 use Rattle.target_ranges.specs.Checked.{checked_from, checked_within, overlaps}
 use Rattle.target_ranges.specs.Made.{page_count, range_of, ranges_of}

@@ -6,7 +6,6 @@ pub mod BodyLine
 pub mod Left
 pub mod HeadView
 pub mod LiveView
-pub mod LineLaws
 pub mod Sound
 pub mod Written
 pub mod WriteBack

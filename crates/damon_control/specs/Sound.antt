@@ -9,7 +9,7 @@ use Rattle.script_lines.specs.Command.{work_of}
 use Rattle.script_lines.specs.Limits.{AreCommandsWithin}
 use Rattle.damon_control.specs.Live.{CallValue, CommitCall, LiveValue, ShowCall}
 use Rattle.damon_control.specs.LiveText.{KeepsLimits}
-use Rattle.damon_control.specs.Script.{ScriptValue, live_of, script_of}
+use Rattle.damon_control.specs.Script.{ScriptValue, script_of}
 use Rattle.damon_control.specs.WriteBack.{SpellsRanges}
 
 -- a script within its limits: those of a space, of a setup with its ranges in order, of each command, and of the work in
@@ -42,7 +42,3 @@ pub record IsLiveSound (v : LiveValue) : Type 0 where
   pub order : InOrder v.setup.ranges
   pub limits : KeepsLimits v
   pub spelled : SpellsCalls v
-
--- each text that is read as a live script gives one within its limits
-abbrev pub LiveScriptsAreSound : Type 0
-LiveScriptsAreSound = (text : List ℕ) (v : LiveValue) → live_of text ≡ Ok v → IsLiveSound v

@@ -1,9 +1,7 @@
 -- What a text can spell of a live script: its seed and setup, and each of its calls.
-use Rattle.std.specs.Prelude.{◌≡◌, ℕ, List, Ok}
 use Rattle.std.specs.List.{AllByRecursion}
 use Rattle.damon_types.specs.declared.scheme.Version.{Version}
 use Rattle.damon_control.specs.Live.{CallValue, CommitCall, LiveValue, ShowCall}
-use Rattle.damon_control.specs.Script.{live_of}
 use Rattle.damon_control.specs.WriteBack.{FitsCommit, IsSpelledIn, IsWritable, SpellsRanges}
 
 -- a text of this version can spell a call
@@ -15,7 +13,3 @@ FitsCall version (CommitCall commit) = FitsCommit commit × SpellsRanges commit 
 pub record IsLiveSpellable (v : LiveValue) : Type 0 where
   pub setup : IsWritable v.seed v.setup
   pub calls : AllByRecursion (λ calls. AllByRecursion (FitsCall v.setup.version) calls) v.controllers
-
--- each text that is read as a live script gives one that a text can spell
-abbrev pub LiveScriptsAreSpellable : Type 0
-LiveScriptsAreSpellable = (text : List ℕ) (v : LiveValue) → live_of text ≡ Ok v → IsLiveSpellable v

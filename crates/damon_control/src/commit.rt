@@ -12,6 +12,19 @@ use live_commit::Commit;
 use script_lines::{Part, alone, first_word, read_part, same_word, wants_slot};
 use std::alloc::{AllocError, Global};
 
+/// The commit of which no part is read.
+pub fn empty_commit() -> Commit
+    ensures { commit_value result ≡ no_commit }
+{
+    Commit {
+        attrs: None,
+        ranges: None,
+        slot: None,
+        metric: None,
+        cost: None,
+    }
+}
+
 // Reads the lines of a commit after its first, up to the line `apply`, in a text of this version.
 pub fn read_commit(alloc: Global, lines: &mut Lines, version: Version) -> Result<Commit, ReadFail>
     requires { IsShort lines.old }
@@ -24,13 +37,7 @@ pub fn read_commit(alloc: Global, lines: &mut Lines, version: Version) -> Result
     ensures shorter { OnOk result (length lines.new.rest.now < length lines.old.rest.now) }
     ensures small { IsShort lines.new }
 {
-    let mut commit = Commit {
-        attrs: None,
-        ranges: None,
-        slot: None,
-        metric: None,
-        cost: None,
-    };
+    let mut commit = empty_commit();
     'lines: loop {
         read_ranges(alloc, lines, &mut commit)?;
         let line = lines.take_line()?;

@@ -20,13 +20,12 @@ use crate::grammar::Grammar;
 use crate::lines::Lines;
 use crate::{MAX_BYTES, ReadFail, ScriptFault};
 use damon_types::{RangeSpecs, SlotChange, SlotChanges, Space, Target, Version};
-use live_commit::{MAX_CAP, slots_are_checked_in_turn};
+use live_commit::MAX_CAP;
 use script_lines::{
     Frame, ScriptKind, read_attrs_line, read_cap, read_range_line, read_scheme_line, read_seed,
     read_target_line, read_unit, same_word, write_change_line,
 };
 use std::alloc::{AllocError, Global};
-use target_ranges::{accepted_has_room, next_decides};
 
 // Reads the lines before the targets.
 pub fn read_frame(lines: &mut Lines, form: Grammar) -> Result<Frame, ScriptFault>
@@ -171,8 +170,6 @@ fn take_range(
     ensures small { IsShort lines.new }
     ensures shorter { OnOk result (length lines.new.rest.now < length lines.old.rest.now) }
 {
-    next_decides();
-    accepted_has_room();
     let line = lines.take_line()?;
     let spec = lines.refuse(read_range_line(frame, space, specs.as_slice(), line))?;
     specs.push(spec)?;
@@ -198,7 +195,6 @@ pub fn read_slots(
     ensures few { IfOk result (λ slots. length slots.list ≤ MAX_BYTES) }
     ensures small { IsShort lines.new }
 {
-    slots_are_checked_in_turn();
     let mut slots = SlotChanges::new(alloc);
     'schemes: while lines.next_is(b"scheme") {
         let line = lines.take_line()?;

@@ -34,13 +34,12 @@ mod script;
 mod spelling;
 
 pub use commands::Commands;
-pub use commit::add_part;
+pub use commit::{add_part, empty_commit};
 pub use fault::{ReadFail, ScriptFault};
 pub use journal_head::{JournalHead, read_journal_head, write_journal_head};
 pub use laws::{
-    commits_are_read_back, commits_are_read_in_parts, journal_heads_are_exactly_read,
-    live_scripts_are_sound, live_scripts_are_spellable, live_texts_are_exactly_read,
-    scripts_are_sound, setups_are_read_back, texts_are_exactly_read,
+    commits_are_read_back, live_texts_are_exactly_read, scripts_are_sound, setups_are_read_back,
+    texts_are_exactly_read,
 };
 pub use live::{
     Call, CallList, CallLists, LiveScript, MAX_CALLS, MAX_CONTROLLERS, MAX_WORKERS, Trace, Traces,

@@ -3,11 +3,10 @@
 
 pub use journal_check::{Replayer, verify};
 pub use journal_text::{
-    TextParts, journal_text, lawful_journals_are_read, one_pass_by_hand, read_journals_are_lawful,
+    TextParts, journal_text, lawful_journals_are_read, read_journals_are_lawful,
 };
 pub use run_journal::{
-    CallAnswer, Entry, Journal, Lawful, Receipt, ReceiptList, Receipts, VerifyFault,
-    aggregations_report_all_pages, hits_are_few, journals_grow, lawful_numbers_fit,
-    settled_receipts_are_lawful, words_at, woven_runs,
+    CallAnswer, Entry, Journal, Lawful, Receipt, ReceiptList, Receipts, VerifyFault, hits_are_few,
+    words_at, woven_runs,
 };
 pub use run_status::Status;

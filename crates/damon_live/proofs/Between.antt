@@ -31,7 +31,7 @@ use Rattle.run_journal.specs.Replay.{EntryFits, JournalValue, Replayed, call_ans
 use Rattle.run_journal.specs.Steps.{steps}
 use Rattle.sampler.specs.Seeds.{words_from}
 use Rattle.run_journal.specs.Words.{words_after, words_at}
-use Rattle.run_journal.specs.Growth.{GrowsByOthers}
+use Rattle.run_journal.proofs.Lemmas.{grows_by_other}
 use Rattle.sampler.proofs.Lemmas.{drawn_rest-append}
 use Rattle.damon_live.specs.Machine.{IsBetweenEntries, IsLoadable, IsRun, entries_owed, with_one, words_owed}
 
@@ -55,15 +55,15 @@ pub record IsCalled (call : CallValue) (m now : MonitorView) : Type 0 where
   pub words : words_owed now.core.phase ≡ words_owed m.core.phase
   pub picks : IsLoadable now.core.phase → IsLoadable m.core.phase × (now.core.picks ≡ m.core.picks)
 
-pub aggregated_run : (v : LiveValue) (table : TableId) (m now : MonitorView) (seat : MonitorSeatView) (j next : JournalValue) (ks : List ℕ) (g left : Lcg) (count tick more : ℕ) → GrowsByOthers → IsRun v table m seat j ks g count → IsAggregated m now g left → m.core.phase ≡ Due → tick ≡ m.core.ticks → more ≡ count + 2 * m.core.attrs.max → next ≡ with_one (Aggregate tick count) j
+pub aggregated_run : (v : LiveValue) (table : TableId) (m now : MonitorView) (seat : MonitorSeatView) (j next : JournalValue) (ks : List ℕ) (g left : Lcg) (count tick more : ℕ) → IsRun v table m seat j ks g count → IsAggregated m now g left → m.core.phase ≡ Due → tick ≡ m.core.ticks → more ≡ count + 2 * m.core.attrs.max → next ≡ with_one (Aggregate tick count) j
     → IsRun v table now seat next ks left more
-aggregated_run v table m now seat j next ks g left count tick more grow h a due number sum longer =
+aggregated_run v table m now seat j next ks g left count tick more h a due number sum longer =
     let r = replay v j in
     let n = 2 * m.core.attrs.max in
     let same : m.core ≡ r.state.core = h.stands.same in
     let e = Aggregate tick count in
     let fits : EntryFits v r e = (sym (ap (λ (c : Core). c.phase) same) ∙ due, number ∙ ap (λ (c : Core). c.ticks) same, h.drawn) in
-    let grown = grow v j next e longer h.journal fits h.journal.none_left in
+    let grown = grows_by_other v j next e longer h.journal fits h.journal.none_left in
     let events : aggregate (drawn n (words_from g)) ∷ [] ≡ entry_events v r e =
     ap (λ (s : Stream). aggregate (drawn n s) ∷ []) (h.words ∙ ap (words_after v.seed) h.drawn) ∙ ap (λ (c : Core). aggregate (words_at v.seed r.drawn (2 * c.attrs.max)) ∷ []) same in
     let made = subst (Makes Stands m now) events a.event r.state h.reached h.stands in
@@ -92,14 +92,14 @@ free_between (Clearing k) free = absurd free
 free_between (Checking k) free = absurd free
 free_between Due free = absurd free
 
-pub called_run : (v : LiveValue) (table : TableId) (m now : MonitorView) (seat : MonitorSeatView) (j next : JournalValue) (ks : List ℕ) (g : Lcg) (count controller index : ℕ) (call : CallValue) (answer : CallAnswer) → GrowsByOthers → IsRun v table m seat j ks g count → IsCalled call m now → IsFree m.core.phase → call_at v controller index ≡ Some call → answer ≡ call_answer call m.core → next ≡ with_one (Call controller index answer) j
+pub called_run : (v : LiveValue) (table : TableId) (m now : MonitorView) (seat : MonitorSeatView) (j next : JournalValue) (ks : List ℕ) (g : Lcg) (count controller index : ℕ) (call : CallValue) (answer : CallAnswer) → IsRun v table m seat j ks g count → IsCalled call m now → IsFree m.core.phase → call_at v controller index ≡ Some call → answer ≡ call_answer call m.core → next ≡ with_one (Call controller index answer) j
     → IsRun v table now seat next ks g count
-called_run v table m now seat j next ks g count controller index call answer grow h a free is told longer =
+called_run v table m now seat j next ks g count controller index call answer h a free is told longer =
     let r = replay v j in
     let same : m.core ≡ r.state.core = h.stands.same in
     let e = Call controller index answer in
     let fits : EntryFits v r e = (subst (λ (c : Core). IsFree c.phase) same free, (call, is, told ∙ ap (call_answer call) same)) in
-    let grown = grow v j next e longer h.journal fits h.journal.none_left in
+    let grown = grows_by_other v j next e longer h.journal fits h.journal.none_left in
     let events : call_event call ∷ [] ≡ entry_events v r e = ap (λ o. option_map_or (λ (x : CallValue). call_event x ∷ []) o []) (sym is) in
     let made = subst (Makes Stands m now) events a.event r.state h.reached h.stands in
     let state : run r.state (entry_events v r e) ≡ (replay v next).state = sym (ap (λ (x : Replayed). x.state) grown.is) in

@@ -21,7 +21,8 @@ use Rattle.run_journal.specs.declared.entry.Entry.TheVariants.{Check, Void}
 use Rattle.run_journal.specs.Replay.{EntryFits, JournalValue, Replayed, carried, check_sizes, entry_events, replay}
 use Rattle.page_words.specs.PassSteps.{load_steps}
 use Rattle.run_journal.specs.Steps.{steps}
-use Rattle.run_journal.specs.Growth.{GrowsByEntries, GrowsByOthers, longer, replay_with}
+use Rattle.run_journal.specs.Growth.{longer, replay_with}
+use Rattle.run_journal.proofs.Lemmas.{grows_by_entry, grows_by_other}
 use Rattle.damon_live.specs.Machine.{IsBetweenEntries, IsLoadable, IsRun, entries_owed, with_one}
 use Rattle.damon_live.specs.Passes.{AreLoaded}
 
@@ -47,9 +48,9 @@ pub record IsObserved (m now : MonitorView) : Type 0 where
   pub core : now.core ≡ passed_core (record m.core { regions = now.core.regions })
   pub cap : now.core.regions.cap ≡ m.core.regions.cap
 
-pub checked_run : (v : LiveValue) (table : TableId) (m mid now : MonitorView) (seat new : MonitorSeatView) (j next : JournalValue) (ks kt : List ℕ) (g : Lcg) (count pass : ℕ) → GrowsByEntries → IsRun v table m seat j ks g count → AreLoaded seat new m mid → IsObserved mid now → m.core.phase ≡ Armed → pass ≡ m.core.ticks + 1 → next ≡ longer j (Check pass) mid.bits → kt ≡ ks ++ length mid.bits ∷ []
+pub checked_run : (v : LiveValue) (table : TableId) (m mid now : MonitorView) (seat new : MonitorSeatView) (j next : JournalValue) (ks kt : List ℕ) (g : Lcg) (count pass : ℕ) → IsRun v table m seat j ks g count → AreLoaded seat new m mid → IsObserved mid now → m.core.phase ≡ Armed → pass ≡ m.core.ticks + 1 → next ≡ longer j (Check pass) mid.bits → kt ≡ ks ++ length mid.bits ∷ []
     → IsRun v table now new next kt g count
-checked_run v table m mid now seat new j next ks kt g count pass grow h a o armed number more sized =
+checked_run v table m mid now seat new j next ks kt g count pass h a o armed number more sized =
     let r = replay v j in
     let n = row_count r.state.core in
     let same : m.core ≡ r.state.core = h.stands.same in
@@ -58,7 +59,7 @@ checked_run v table m mid now seat new j next ks kt g count pass grow h a o arme
     let with_bits = replay_with v j mid.bits in
     let fits : EntryFits v with_bits e = (sym (ap (λ (c : Core). c.phase) same) ∙ armed, number ∙ ap (λ (c : Core). c.ticks + 1) same, omega (arith, size)) in
     let none : (carried v with_bits e).bits ≡ [] = drop_all n mid.bits (omega (arith, size)) in
-    let grown = grow v j next e mid.bits more h.journal fits none in
+    let grown = grows_by_entry v j next e mid.bits more h.journal fits none in
     let taken : take n mid.bits ≡ mid.bits = take_all n mid.bits (omega (arith, size)) in
     let events : map (λ result. load result) mid.bits ++ observe ∷ [] ≡ entry_events v with_bits e = ap (λ bs. map (λ result. load result) bs ++ observe ∷ []) (sym taken) in
     let made = subst (Makes Stands m now) events (Makes-append Stands m mid now (map (λ result. load result) mid.bits) (observe ∷ []) a.events o.event) r.state h.reached h.stands in
@@ -87,14 +88,14 @@ checked_run v table m mid now seat new j next ks kt g count pass grow h a o arme
       between = subst IsBetweenEntries (sym ended) (between_passes (mid.core.since + 1) mid.core.attrs.aggr);
     }
 
-pub voided_run : (v : LiveValue) (table : TableId) (m now : MonitorView) (seat : MonitorSeatView) (j next : JournalValue) (ks : List ℕ) (g : Lcg) (count pass : ℕ) → GrowsByOthers → IsRun v table m seat j ks g count → IsObserved m now → m.core.phase ≡ VoidPhase → pass ≡ m.core.ticks + 1 → next ≡ with_one (Void pass) j
+pub voided_run : (v : LiveValue) (table : TableId) (m now : MonitorView) (seat : MonitorSeatView) (j next : JournalValue) (ks : List ℕ) (g : Lcg) (count pass : ℕ) → IsRun v table m seat j ks g count → IsObserved m now → m.core.phase ≡ VoidPhase → pass ≡ m.core.ticks + 1 → next ≡ with_one (Void pass) j
     → IsRun v table now seat next ks g count
-voided_run v table m now seat j next ks g count pass grow h o void number more =
+voided_run v table m now seat j next ks g count pass h o void number more =
     let r = replay v j in
     let same : m.core ≡ r.state.core = h.stands.same in
     let e = Void pass in
     let fits : EntryFits v r e = (sym (ap (λ (c : Core). c.phase) same) ∙ void, number ∙ ap (λ (c : Core). c.ticks + 1) same) in
-    let grown = grow v j next e more h.journal fits h.journal.none_left in
+    let grown = grows_by_other v j next e more h.journal fits h.journal.none_left in
     let made = o.event r.state h.reached h.stands in
     let state : run r.state (observe ∷ []) ≡ (replay v next).state = sym (ap (λ (x : Replayed). x.state) grown.is) in
     let ticks : now.core.ticks ≡ m.core.ticks + 1 = ap (λ (c : Core). c.ticks) o.core in

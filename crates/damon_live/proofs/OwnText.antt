@@ -5,14 +5,17 @@ use Rattle.std.specs.List.{AllByRecursion, range_with_len}
 use Rattle.std.proofs.lemmas.Bool.Decides.{nat_tests}
 use Rattle.std.proofs.lemmas.List.{length-map}
 use Rattle.std.proofs.lemmas.Option.{slice_get_within}
-use Rattle.damon_core.specs.Reached.{CanOpen}
+use Rattle.damon_core.specs.InPhase.{IsInPhase}
+use Rattle.damon_core.specs.Reached.{CanOpen, Reached}
+use Rattle.damon_core.specs.State.{State}
 use Rattle.damon_control.specs.Live.{CallValue, LiveValue}
-use Rattle.damon_control.specs.Sound.{LiveScriptsAreSound}
-use Rattle.damon_control.specs.Spellable.{FitsCall, LiveScriptsAreSpellable}
+use Rattle.damon_control.specs.Spellable.{FitsCall}
+use Rattle.damon_control.proofs.Lemmas.{live_scripts_sound, live_scripts_spellable}
 use Rattle.run_journal.specs.declared.entry.Entry.{Entry}
 use Rattle.run_journal.specs.declared.entry.Entry.TheVariants.{Aggregate, Call, Check, Prepare, Void}
-use Rattle.run_journal.specs.Limits.{LawfulNumbersFit, CanCall}
+use Rattle.run_journal.specs.Limits.{CanCall}
 use Rattle.run_journal.specs.Replay.{EntriesFit, Replayed, begun, carried}
+use Rattle.run_journal.proofs.Lemmas.{lawful_fit}
 use Rattle.journal_text.specs.Rules.{InTurn, one_more}
 use Rattle.damon_live.specs.Kept.{calls_asked, indexes}
 use Rattle.damon_live.specs.OwnText.{WholeRunsAreSpellable}
@@ -112,14 +115,14 @@ none_yet (suc (suc (suc (suc c)))) = refl
 
 -- ---- both
 
-pub whole_is_spellable : LiveScriptsAreSound → LiveScriptsAreSpellable → LawfulNumbersFit → WholeRunsAreSpellable
+pub whole_is_spellable : ((s : State) → Reached s → IsInPhase s) → WholeRunsAreSpellable
 unfolding Follow
-whole_is_spellable sounds spells fits text v j all read whole =
-    let sound = sounds text v read in
-    let spelled = spells text v read in
+whole_is_spellable in_phase text v j all read whole =
+    let sound = live_scripts_sound text v read in
+    let spelled = live_scripts_spellable text v read in
     let can : CanCall v = λ controller index call is. fits_at (FitsCall v.setup.version) v.controllers controller index call spelled.calls is in
     let opens : CanOpen v.setup = record { space = sound.space; sound = sound.setup; order = sound.order } in
-    let small = fits v j all opens sound.limits can whole.lawful (omega (arith, whole.passes)) in
+    let small = lawful_fit in_phase v j all opens sound.limits can whole.lawful (omega (arith, whole.passes)) in
     let workers : length all ≡ length v.workers = sym (length-map all pages_touched) ∙ ap length whole.traces in
     let follow : Follow no_calls j.entries = λ c. (calls_asked c v, whole.calls c ∙ ap (λ k. range_with_len k (calls_asked c v)) (sym (none_yet c))) in
     record {

@@ -30,7 +30,7 @@ use Rattle.page_words.specs.PassSteps.{clear_steps}
 use Rattle.run_journal.specs.Steps.{steps}
 use Rattle.sampler.specs.Seeds.{words_from}
 use Rattle.run_journal.specs.Words.{words_after, words_at}
-use Rattle.run_journal.specs.Growth.{GrowsByOthers}
+use Rattle.run_journal.proofs.Lemmas.{grows_by_other}
 use Rattle.damon_live.specs.Machine.{HasRoom, call_in, passes_made, calls_left, IsBetweenEntries, IsRun, entries_owed, with_one, words_owed}
 use Rattle.std.proofs.lemmas.List.Sums.{sum_by_push}
 use Rattle.sampler.proofs.Lemmas.{drawn_rest-append}
@@ -56,15 +56,15 @@ armed_core m mid now ws begin clear =
     let all : (n == n) ≡ true = grind (arith, nat_tests) in
     index ∙ ap (λ b. record mid.core { phase = cond b Armed (Clearing n) }) all
 
-pub prepared_run : (v : LiveValue) (table : TableId) (m now : MonitorView) (seat new : MonitorSeatView) (j next : JournalValue) (ks : List ℕ) (g left : Lcg) (count pass more : ℕ) → GrowsByOthers → IsRun v table m seat j ks g count → IsPrepared m now seat new g left pass → m.core.phase ≡ Idle → pass ≡ m.core.ticks + 1 → more ≡ count + row_count m.core → next ≡ with_one (Prepare pass count) j
+pub prepared_run : (v : LiveValue) (table : TableId) (m now : MonitorView) (seat new : MonitorSeatView) (j next : JournalValue) (ks : List ℕ) (g left : Lcg) (count pass more : ℕ) → IsRun v table m seat j ks g count → IsPrepared m now seat new g left pass → m.core.phase ≡ Idle → pass ≡ m.core.ticks + 1 → more ≡ count + row_count m.core → next ≡ with_one (Prepare pass count) j
     → IsRun v table now new next ks left more
-prepared_run v table m now seat new j next ks g left count pass more grow h p idle number sum longer =
+prepared_run v table m now seat new j next ks g left count pass more h p idle number sum longer =
     let r = replay v j in
     let n = row_count m.core in
     let same : m.core ≡ r.state.core = h.stands.same in
     let e = Prepare pass count in
     let fits : EntryFits v r e = (sym (ap (λ (c : Core). c.phase) same) ∙ idle, number ∙ ap (λ (c : Core). c.ticks + 1) same, h.drawn) in
-    let grown = grow v j next e longer h.journal fits h.journal.none_left in
+    let grown = grows_by_other v j next e longer h.journal fits h.journal.none_left in
     let events : prepare (drawn n (words_from g)) ∷ clears n ≡ entry_events v r e =
     ap (λ (s : Stream). prepare (drawn n s) ∷ clears n) (h.words ∙ ap (words_after v.seed) h.drawn)
     ∙ ap (λ (c : Core). prepare (words_at v.seed r.drawn (row_count c)) ∷ clears (row_count c)) same in

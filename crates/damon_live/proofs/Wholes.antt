@@ -10,22 +10,23 @@ use Rattle.damon_core.specs.Reached.{CanOpen}
 use Rattle.damon_control.specs.Live.{LiveValue}
 use Rattle.run_journal.specs.declared.entry.Receipt.{Receipt}
 use Rattle.run_journal.specs.Few.{HitsAreFew}
-use Rattle.run_journal.specs.Lawful.{IsLawful, SettledReceiptsAreLawful, gathers}
+use Rattle.run_journal.specs.Lawful.{IsLawful, gathers}
 use Rattle.run_journal.specs.Replay.{IsJournalOf, JournalValue}
 use Rattle.run_journal.specs.Steps.{steps}
 use Rattle.run_journal.specs.Woven.{WovenRuns}
+use Rattle.run_journal.proofs.Lemmas.{settled_receipts}
 use Rattle.damon_live.specs.Kept.{CallsAreInOrder, calls_asked, calls_made}
 use Rattle.damon_live.specs.Machine.{passes_made}
 use Rattle.damon_live.specs.Whole.{AreAllMade, IsWholeRun, pages_touched}
 use Rattle.damon_live.proofs.Working.{all_within}
 
-pub whole_run : (v : LiveValue) (j : JournalValue) (all : List (List Receipt)) (words : List ℕ) (entries : List Step) → SettledReceiptsAreLawful → ((v : LiveValue) (j : JournalValue) (all : List (List Receipt)) → CanOpen v.setup → IsLawful v j all → WovenRuns v j all) → ((v : LiveValue) (j : JournalValue) (all : List (List Receipt)) → CanOpen v.setup → IsLawful v j all → HitsAreFew v j all) → CanOpen v.setup → IsJournalOf v j → AreAllMade v j → CallsAreInOrder v j → passes_made j ≤ v.passes → entries ≡ steps v j ++ gathers 0 all → Agree words entries (Told entries) → GatheredTagsRise entries → map pages_touched all ≡ v.workers → All (λ (t : List ℕ). All (λ p. p < pages_of v.setup.space) t) v.workers
+pub whole_run : (v : LiveValue) (j : JournalValue) (all : List (List Receipt)) (words : List ℕ) (entries : List Step) → ((v : LiveValue) (j : JournalValue) (all : List (List Receipt)) → CanOpen v.setup → IsLawful v j all → WovenRuns v j all) → ((v : LiveValue) (j : JournalValue) (all : List (List Receipt)) → CanOpen v.setup → IsLawful v j all → HitsAreFew v j all) → CanOpen v.setup → IsJournalOf v j → AreAllMade v j → CallsAreInOrder v j → passes_made j ≤ v.passes → entries ≡ steps v j ++ gathers 0 all → Agree words entries (Told entries) → GatheredTagsRise entries → map pages_touched all ≡ v.workers → All (λ (t : List ℕ). All (λ p. p < pages_of v.setup.space) t) v.workers
     → IsWholeRun v j all
-whole_run v j all words entries settled weave few can journal made calls most is agree rise traces within =
+whole_run v j all words entries weave few can journal made calls most is agree rise traces within =
     let lawful : IsLawful v j all = record {
       journal = journal;
       idle = made.idle;
-      receipts = settled v j all words entries (pages_of v.setup.space) is agree rise (all_within (pages_of v.setup.space) all v.workers traces within);
+      receipts = settled_receipts v j all words entries (pages_of v.setup.space) is agree rise (all_within (pages_of v.setup.space) all v.workers traces within);
     } in
     record {
       opens = can;

@@ -1,5 +1,5 @@
 // The end of a run, once no thread but this one is left.
-ghost use Rattle.std.specs.Prelude.{◌≡◌, ◌-◌, ◌≤◌, ◌++◌, ◌∷◌, [], length, map, vec_len};
+ghost use Rattle.std.specs.Prelude.{◌≡◌, ◌-◌, ◌≤◌, ◌++◌, [], length, map, vec_len};
 ghost use Rattle.damon_core.specs.Stands.{Stands};
 ghost use Rattle.run_journal.specs.Lawful.{gathers, receipts_said};
 ghost use Rattle.run_journal.specs.Replay.{check_sizes, replay};
@@ -79,7 +79,6 @@ pub(crate) fn end_run<N: Named>(
     } = kept.into_parts();
     gather_all(&words, &mut seat, made, &mut receipts);
     words.settle(seat);
-    run_journal::settled_receipts_are_lawful();
     run_journal::woven_runs();
     run_journal::hits_are_few();
     Ended {

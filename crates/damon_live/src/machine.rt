@@ -24,7 +24,7 @@ use damon_core::Monitor;
 use live_commit::Phase;
 use page_words::{MonitorSeat, PageWords};
 use rand_pcg::Lcg64Xsh32;
-use run_journal::{Journal, journals_grow, make_call};
+use run_journal::{Journal, make_call};
 use sampler::{draw_words, generator};
 use std::alloc::{AllocError, Global};
 use std::marker::{Model, PhantomData};
@@ -137,7 +137,6 @@ impl<'a, N: Named> Machine<'a, N> {
         ensures armed { (replay N.script self.new).state.core.phase ≡ Armed }
         ensures made { passes_made self.new ≡ passes_made self.old + 1 }
     {
-        journals_grow();
         let pass = self.monitor.ticks() + 1;
         let at = self.drawn;
         let rows = self.monitor.rows().len();
@@ -158,7 +157,6 @@ impl<'a, N: Named> Machine<'a, N> {
         ensures ended { IsBetween (replay N.script self.new).state.core.phase }
         ensures made { passes_made self.new ≡ passes_made self.old }
     {
-        journals_grow();
         let pass = self.monitor.ticks() + 1;
         load_all(words, &mut self.seat, &mut self.monitor, &mut self.places);
         self.journal.check(pass, self.monitor.picks());
@@ -173,7 +171,6 @@ impl<'a, N: Named> Machine<'a, N> {
         ensures ended { IsBetween (replay N.script self.new).state.core.phase }
         ensures made { passes_made self.new ≡ passes_made self.old }
     {
-        journals_grow();
         let pass = self.monitor.ticks() + 1;
         self.monitor.observe();
         self.journal.void(pass);
@@ -186,7 +183,6 @@ impl<'a, N: Named> Machine<'a, N> {
         ensures idle { (replay N.script self.new).state.core.phase ≡ Idle }
         ensures made { passes_made self.new ≡ passes_made self.old }
     {
-        journals_grow();
         let tick = self.monitor.ticks();
         let at = self.drawn;
         let max = self.monitor.attrs().max;
@@ -210,7 +206,6 @@ impl<'a, N: Named> Machine<'a, N> {
             ≡ passes_open (replay N.script self.old).state.core.phase }
         ensures made { passes_made self.new ≡ passes_made self.old }
     {
-        journals_grow();
         let call = self.script.controllers.get(controller).get(index);
         let answer = make_call(&mut self.monitor, call);
         let place = self.journal.call(controller, index, answer);

@@ -7,7 +7,8 @@ use std::thread;
 // The most turns for which a thread waits. A thread that could not be made is never there.
 const MAX_TURNS: u32 = 100_000;
 
-// For how many of them it only looks. A yield may take milliseconds, and what others do meanwhile takes less.
+// For how many of them it only looks. A yield may take milliseconds, and what others do meanwhile takes
+// less.
 const LOOKS: u32 = 4_000;
 
 // How often a worker counts its touches at least, and the most that it counts at once.
@@ -17,9 +18,9 @@ const MAX_COUNT: u64 = 64;
 
 /// Spreads the passes of a run over its touches, and then holds each spot as another pace does.
 ///
-/// Workers begin to touch once the first pass has cleared its pages. A pass is checked when its share of all
-/// touches is made, so that it finds some of them. Each wait has an end, and after one that took too long there
-/// are no more.
+/// Workers begin to touch once the first pass has cleared its pages. A pass is checked when its share
+/// of all touches is made, so that it finds some of them. Each wait has an end, and after one that took
+/// too long there are no more.
 #[derive(Drop)]
 pub(crate) struct Spread<'a, P> {
     pace: &'a P,
@@ -28,8 +29,8 @@ pub(crate) struct Spread<'a, P> {
     // All touches and all passes of the script.
     touches: u64,
     passes: u32,
-    // How many touches were made, as far as they are counted: a worker counts where all bits of this mask
-    // are set in the index of a touch.
+    // How many touches were made, as far as they are counted: a worker counts where all bits of this
+    // mask are set in the index of a touch.
     touched: AtomicU64,
     mask: u32,
     // The most touches that are made and not counted yet.
@@ -86,7 +87,7 @@ impl<P: Pace> Spread<'_, P> {
         self.late.store(true, Ordering::SeqCst);
     }
 
-    // Waits until the touches up to the share of a pass are made, but for those that are not counted yet.
+    // Waits until the touches up to the share of a pass are made, but for those not counted yet.
     fn hold_pass(&self, pass: u64) {
         let share = part_of(self.touches.saturating_mul(pass), self.passes);
         self.hold(|| {

@@ -1,15 +1,13 @@
 ghost use Rattle.std.specs.Prelude.{ℕ, ◌≡◌, ◌≢◌, ◌↔◌, ◌≤◌, ◌<◌, ◌+◌, true, None, Ok, Some, IfErr, IfNone, IfOk, IfSome, IsErrOf, IsSome, OnOk};
-ghost use Rattle.std.specs.List.{AllByRecursion};
 ghost use Rattle.std.specs.Io.KnownBytes.{Appends, IsAtEnd};
 ghost use Rattle.damon_types.specs.Calls.{EndsAtFault, Rose};
-ghost use Rattle.damon_types.specs.Space.{pages_of};
 ghost use Rattle.damon_core.specs.Stands.{Stands};
 ghost use Rattle.damon_control.specs.LiveText.{KeepsLimits};
 ghost use Rattle.damon_control.specs.LiveView.{live_said};
 ghost use Rattle.damon_control.specs.Script.{live_of};
 ghost use Rattle.text_io.specs.Given.{GaveOver};
 ghost use Rattle.text_io.specs.Taken.{WritesPart};
-ghost use Rattle.run_journal.specs.Lawful.{all_of, receipts_said};
+ghost use Rattle.run_journal.specs.Lawful.{receipts_said};
 ghost use Rattle.run_journal.specs.Replay.{check_sizes, replay};
 ghost use Rattle.journal_text.specs.Rules.{IsReadBack};
 ghost use Rattle.run_status.specs.Status.{EndsRun, IsRead, IsUnwritten};
@@ -22,7 +20,7 @@ use crate::ends::AloneRun;
 use crate::laws::whole_runs_are_read_back;
 use crate::pace::Pace;
 use crate::threads::run_threads;
-use damon_control::{LiveScript, live_scripts_are_sound, read_live};
+use damon_control::{LiveScript, read_live};
 use damon_types::{PlainList, Sink, Source};
 use journal_text::TextParts;
 use run_journal::{Journal, Receipts};
@@ -232,7 +230,6 @@ fn take_script<S: Source>(alloc: Global, source: &mut S) -> Result<LiveScript, S
         (record { bytes = S.left source.old; calls = S.calls source.old })
         (record { bytes = S.left source.new; calls = S.calls source.new })) }
 {
-    live_scripts_are_sound();
     let bytes = read_all(alloc, source)?;
     let script = read_live(alloc, &bytes)?;
     check_passes(&script)?;

@@ -7,7 +7,7 @@ use Rattle.damon_core.specs.Slots.{slot_count}
 use Rattle.damon_control.specs.Live.{LiveValue}
 use Rattle.run_journal.specs.declared.entry.Entry.TheVariants.{Prepare, Check, Aggregate}
 use Rattle.run_journal.specs.Aggregated.{aggregated}
-use Rattle.journal_text.specs.Examples.{one_page, one_pass}
+use Rattle.journal_text.proofs.Examples.{one_page, one_pass}
 use Rattle.run_journal.specs.Replay.{IsJournalOf, JournalValue}
 
 -- a pass without an aggregation

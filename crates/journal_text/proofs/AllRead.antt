@@ -15,7 +15,7 @@ use Rattle.journal_text.specs.Rules.{CallsInTurn, InTurn}
 use Rattle.run_journal.specs.Limits.{CanCall}
 use Rattle.run_journal.specs.Steps.{entry_steps, steps, steps_from}
 use Rattle.journal_text.specs.Text.{entries_lines, entry_lines, journal_lines}
-use Rattle.journal_text.proofs.EntriesRead.{EntryLaws, ReadsOn, aggregate_reads, call_reads, check_reads, left, prepare_reads, so_far, taken, void_reads}
+use Rattle.journal_text.proofs.EntriesRead.{ReadsOn, aggregate_reads, call_reads, check_reads, left, prepare_reads, so_far, taken, void_reads}
 use Rattle.journal_text.proofs.Leading.{leads_to}
 use Rattle.run_journal.proofs.Lemmas.{added-of, called_in, length-added, cases}
 use Rattle.journal_text.proofs.Turns.{counts-added, counts-at}
@@ -62,13 +62,13 @@ record NextRead (v : LiveValue) (done : List (List CallValue)) (j : JournalValue
   are : AreOf v later
 
 -- an entry that fits is read, and after a call the indexes go on
-next_read : EntryLaws → (v : LiveValue) → CanCall v → (done : List (List CallValue)) (j : JournalValue) (b : List Bool) (e : Entry) (es : List Entry) → length done ≡ 4 → IsJournalOf (so_far v done) j
+next_read : (v : LiveValue) → CanCall v → (done : List (List CallValue)) (j : JournalValue) (b : List Bool) (e : Entry) (es : List Entry) → length done ≡ 4 → IsJournalOf (so_far v done) j
     → EntryFits v (replay_with (so_far v done) j b) e → InTurn (map length done) (e ∷ es) → AreOf v done → NextRead v done j b e es
-next_read laws v can done j b (Prepare pass pos) es four is fits turn are = record { later = done; four = four; reads = prepare_reads v done j b pass pos is fits; turn = turn; are = are }
-next_read laws v can done j b (Check pass) es four is fits turn are = record { later = done; four = four; reads = check_reads laws v done j b pass is fits; turn = turn; are = are }
-next_read laws v can done j b (Void pass) es four is fits turn are = record { later = done; four = four; reads = void_reads v done j b pass is fits; turn = turn; are = are }
-next_read laws v can done j b (Aggregate tick pos) es four is fits turn are = record { later = done; four = four; reads = aggregate_reads v done j b tick pos is fits; turn = turn; are = are }
-next_read laws v can done j b (Call c i answer) es four is fits turn are =
+next_read v can done j b (Prepare pass pos) es four is fits turn are = record { later = done; four = four; reads = prepare_reads v done j b pass pos is fits; turn = turn; are = are }
+next_read v can done j b (Check pass) es four is fits turn are = record { later = done; four = four; reads = check_reads v done j b pass is fits; turn = turn; are = are }
+next_read v can done j b (Void pass) es four is fits turn are = record { later = done; four = four; reads = void_reads v done j b pass is fits; turn = turn; are = are }
+next_read v can done j b (Aggregate tick pos) es four is fits turn are = record { later = done; four = four; reads = aggregate_reads v done j b tick pos is fits; turn = turn; are = are }
+next_read v can done j b (Call c i answer) es four is fits turn are =
     let call = fits.1.0 in
     let count : i ≡ length (slice_index_or done c []) = turn.1 ∙ counts-at done c in
     let few : c < 4 = omega (arith, turn.0, length-map done length, four) in
@@ -77,7 +77,7 @@ next_read laws v can done j b (Call c i answer) es four is fits turn are =
       later = added_to c call done;
       four = length-added done c call ∙ four;
       reads = subst (λ k. ReadsOn v done j b (Call c k answer) (added_to c call done)) (sym count)
-          (call_reads laws v done j b c answer call four few (can c i call fits.1.1) is fits.0 there fits.1.2);
+          (call_reads v done j b c answer call four few (can c i call fits.1.1) is fits.0 there fits.1.2);
       turn = subst (λ ks. InTurn ks es) (counts-added done c call) turn.2;
       are = more_of v done c call are there;
     }
@@ -95,17 +95,17 @@ record AllRead (v : LiveValue) (done : List (List CallValue)) (j : JournalValue)
   steps_are : steps (so_far v later) new ≡ steps (so_far v done) j ++ steps_from v r es
 
 -- entries that fit are read, one after another
-all_read : EntryLaws → (v : LiveValue) → CanCall v → (done : List (List CallValue)) (j : JournalValue) (b : List Bool) (es : List Entry) → length done ≡ 4 → IsJournalOf (so_far v done) j
+all_read : (v : LiveValue) → CanCall v → (done : List (List CallValue)) (j : JournalValue) (b : List Bool) (es : List Entry) → length done ≡ 4 → IsJournalOf (so_far v done) j
     → EntriesFit v (replay_with (so_far v done) j b) es → InTurn (map length done) es → AreOf v done → AllRead v done j (replay_with (so_far v done) j b) b es
-all_read laws v can done j b [] four is fit turn are = record { later = done; are = are; new = j; journal = is; entries = sym (append-nil j.entries); bits = refl; next = refl; leads = λ lines. refl; steps_are = sym (append-nil (steps (so_far v done) j)) }
-all_read laws v can done j b (e ∷ es) four is fit turn are =
+all_read v can done j b [] four is fit turn are = record { later = done; are = are; new = j; journal = is; entries = sym (append-nil j.entries); bits = refl; next = refl; leads = λ lines. refl; steps_are = sym (append-nil (steps (so_far v done) j)) }
+all_read v can done j b (e ∷ es) four is fit turn are =
     let r = replay_with (so_far v done) j b in
-    let here = next_read laws v can done j b e es four is fit.0 turn are in
+    let here = next_read v can done j b e es four is fit.0 turn are in
     let bs = taken v done j b e in
     let b2 = left v done j b e in
     let j2 = longer j e bs in
     let next = here.reads.next in
-    let rest = all_read laws v can here.later j2 b2 es here.four here.reads.journal (subst (λ y. EntriesFit v y es) next fit.1) here.turn here.are in
+    let rest = all_read v can here.later j2 b2 es here.four here.reads.journal (subst (λ y. EntriesFit v y es) next fit.1) here.turn here.are in
     record {
       later = rest.later;
       are = rest.are;
@@ -142,9 +142,9 @@ pub record JournalIsRead (v : LiveValue) (j : JournalValue) : Type 0 where
   pub steps_are : steps (so_far v later) j ≡ steps v j
 
 -- from the first entry to the last
-pub journal_read : EntryLaws → (v : LiveValue) → CanCall v → (j : JournalValue) → IsJournalOf v j → CallsInTurn j.entries → JournalIsRead v j
-journal_read laws v can j is turn =
-    let all = all_read laws v can no_calls nothing_said j.bits j.entries refl (record { fit = tt; none_left = refl }) is.fit turn (none_of v) in
+pub journal_read : (v : LiveValue) → CanCall v → (j : JournalValue) → IsJournalOf v j → CallsInTurn j.entries → JournalIsRead v j
+journal_read v can j is turn =
+    let all = all_read v can no_calls nothing_said j.bits j.entries refl (record { fit = tt; none_left = refl }) is.fit turn (none_of v) in
     let bits : all.new.bits ≡ j.bits = sym (append-nil all.new.bits) ∙ ap (λ l. all.new.bits ++ l) (sym is.none_left) ∙ all.bits in
     let same : all.new ≡ j = λ i. record { entries = all.entries i; bits = bits i } in
     let state : (replay (so_far v all.later) all.new).state ≡ (replay v j).state = sym (ap (λ (r : Replayed). r.state) all.next) in

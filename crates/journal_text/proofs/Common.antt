@@ -1,14 +1,11 @@
--- Steps that succeed, tests that pass, and the parts of texts.
-use Rattle.std.proofs.Common.{◌≡◌, ℕ, ◌<◌, ◌&&◌, ◌||◌, Bool, true, false, List, [], ◌∷◌, ◌++◌, length, Some, None, Ok, Err, refl, sym, ap, ◌∙◌, append_assoc, length-append, arith}
+-- Steps that succeed, tests that pass, and lines without an LF.
+use Rattle.std.proofs.Common.{◌≡◌, ℕ, ◌&&◌, ◌||◌, Bool, true, false, List, [], ◌∷◌, ◌++◌, Some, None, Ok, Err, refl, sym, ap, ◌∙◌}
 use Rattle.std.proofs.lemmas.List.Elements.{All-append, All-cons, All-head, All-nil, All-tail}
-use Rattle.std.proofs.lemmas.List.Splits.{length-slice_split}
-use Rattle.std.specs.Prelude.{◌==◌, All, Option, Result, option_and_then, option_map, if◌then◌else◌}
+use Rattle.std.specs.Prelude.{All, Option, Result, option_and_then, option_map, if◌then◌else◌}
 use Rattle.std.specs.Cmp.Lexicographic.{bytes_decides, same_text}
 use Rattle.std.specs.List.{AllByRecursion}
 use Rattle.std.specs.Option.{ok_or, option_or}
-use Rattle.line_text.specs.Laws.{PutsPartsTogether, TakesApartPieces}
-use Rattle.line_text.specs.Parts.{IsPiece, joined, parts}
-use Rattle.script_lines.specs.Lines.{lines_text}
+use Rattle.line_text.specs.Parts.{IsPiece}
 use Rattle.script_lines.specs.Refusal.{◌>>=◌}
 use Rattle.script_lines.specs.Words.{same_word}
 
@@ -116,28 +113,3 @@ both_pieces a b first second = All-append (IsPiece 10) a b first second
 pub pieces_front : (a b : List (List ℕ)) → Pieces (a ++ b) → Pieces a
 pieces_front [] b each = no_pieces
 pieces_front (line ∷ a) b each = piece_first line a (All-head (IsPiece 10) line (a ++ b) each) (pieces_front a b (All-tail (IsPiece 10) line (a ++ b) each))
-
--- ---- the parts of a text
-
--- a text has at least one part
-pub parts-some : (separator : ℕ) (bytes : List ℕ) → 0 < length (parts separator bytes)
-parts-some separator bytes = omega (arith, length-slice_split (λ c. c == separator) bytes)
-
--- the text of lines and then of pieces
-pub joined_before : (lines pieces : List (List ℕ)) → 0 < length pieces → joined 10 (lines ++ pieces) ≡ lines_text lines ++ joined 10 pieces
-joined_before [] pieces some = refl
-joined_before (line ∷ []) [] some = absurd (omega arith)
-joined_before (line ∷ []) (p ∷ pieces) some = sym (append_assoc line (10 ∷ []) (joined 10 (p ∷ pieces)))
-joined_before (line ∷ next ∷ more) pieces some =
-    ap (λ t. line ++ 10 ∷ t) (joined_before (next ∷ more) pieces some)
-    ∙ sym (append_assoc line (10 ∷ lines_text (next ∷ more)) (joined 10 pieces))
-
--- lines without an LF before a text are its first parts
-pub parts_before : TakesApartPieces → PutsPartsTogether → (lines : List (List ℕ)) (bytes : List ℕ) → Pieces lines → parts 10 (lines_text lines ++ bytes) ≡ lines ++ parts 10 bytes
-parts_before apart together lines bytes each =
-    ap (parts 10) (ap (λ t. lines_text lines ++ t) (sym (together 10 bytes).0) ∙ sym (joined_before lines (parts 10 bytes) (parts-some 10 bytes)))
-    ∙ by (lines ++ parts 10 bytes) (omega (arith, length-append lines (parts 10 bytes), parts-some 10 bytes)) (both_pieces lines (parts 10 bytes) each (together 10 bytes).1)
-  where
-    by : (pieces : List (List ℕ)) → 0 < length pieces → Pieces pieces → parts 10 (joined 10 pieces) ≡ pieces
-    by [] some each = absurd (omega arith)
-    by (first ∷ others) some each = apart 10 first others each

@@ -6,7 +6,7 @@ use Rattle.std.specs.Option.{option_map_or, option_or}
 use Rattle.std.specs.Fmt.{digits}
 use Rattle.std.specs.List.{fold}
 use Rattle.damon_types.specs.declared.scheme.Scheme.{Scheme}
-use Rattle.line_text.specs.Laws.{StripsFront}
+use Rattle.line_text.proofs.Lemmas.{after_prefix-append}
 use Rattle.live_commit.specs.declared.phase.Phase.{Phase}
 use Rattle.live_commit.specs.declared.phase.Phase.TheVariants.{Idle, Clearing, Armed, Checking, Void as VoidPhase, Due}
 use Rattle.live_commit.specs.Commit.{CommitValue}
@@ -18,7 +18,8 @@ use Rattle.script_lines.specs.WrittenLine.{slot_line}
 use Rattle.damon_core.specs.Event.{load, observe}
 use Rattle.damon_core.specs.Reached.{run}
 use Rattle.damon_core.specs.State.{row_count}
-use Rattle.damon_control.specs.CommitLines.{AreReadAfter, ReadsPartsBack}
+use Rattle.damon_control.specs.CommitLines.{AreReadAfter}
+use Rattle.damon_control.proofs.Lemmas.{parts_read_back}
 use Rattle.damon_control.specs.Live.{CallValue, CommitCall, LiveValue, ShowCall}
 use Rattle.damon_control.specs.Written.{part_text, parts_of, written_commit}
 use Rattle.damon_control.specs.Spellable.{FitsCall}
@@ -37,11 +38,6 @@ use Rattle.journal_text.specs.Text.{entry_lines}
 use Rattle.journal_text.proofs.Common.{or_first, same_line}
 use Rattle.journal_text.proofs.Leading.{found, leads_by, leads_to}
 use Rattle.run_journal.proofs.Lemmas.{added-keeps, added-last, called_in, lengthened}
-
--- the laws of the crates below
-pub record EntryLaws : Type 0 where
-  pub strips : StripsFront
-  pub block : ReadsPartsBack
 
 -- ---- entries that are no calls
 
@@ -91,12 +87,12 @@ n_bits_back n bits is =
     ap (λ o. option_and_then (λ (bs : List Bool). if length bs == n then Some bs else None) o) (bits_back bits)
     ∙ ap (λ t. if t then Some bits else None) same
 
-said_check : StripsFront → (r : Replayed) (ph : Phase) (pass : ℕ) (bits : List Bool) → ph ≡ Armed → pass ≡ r.state.core.ticks + 1 → length bits ≡ row_count r.state.core
+said_check : (r : Replayed) (ph : Phase) (pass : ℕ) (bits : List Bool) → ph ≡ Armed → pass ≡ r.state.core.ticks + 1 → length bits ≡ row_count r.state.core
     → said_entry r ph (spelled_check pass bits) ≡ Some (Check pass, bits)
-said_check strips r ph pass bits armed ticks count =
+said_check r ph pass bits armed ticks count =
     ap (λ x. said_entry r x (spelled_check pass bits)) armed
     ∙ ap (λ n. said_entry r Armed (spelled_check n bits)) ticks
-    ∙ ap (λ o. option_map (λ (bs : List Bool). (Check (r.state.core.ticks + 1), bs)) (option_and_then (n_bits_of (row_count r.state.core)) o)) (strips (check_front (r.state.core.ticks + 1)) (map bit_digit bits))
+    ∙ ap (λ o. option_map (λ (bs : List Bool). (Check (r.state.core.ticks + 1), bs)) (option_and_then (n_bits_of (row_count r.state.core)) o)) (after_prefix-append (check_front (r.state.core.ticks + 1)) (map bit_digit bits))
     ∙ ap (λ o. option_map (λ (bs : List Bool). (Check (r.state.core.ticks + 1), bs)) o) (n_bits_back (row_count r.state.core) bits count)
     ∙ ap (λ n. Some (Check n, bits)) (sym ticks)
 
@@ -135,11 +131,11 @@ abbrev call_line : LiveValue → ℕ → CallValue → List ℕ
 call_line v c call = call_front c (length (calls_so_far v c)) ++ word_of call
 
 -- the first line of a call is read for its own controller
-called_back : StripsFront → (v : LiveValue) (j : JournalValue) (c : ℕ) (call : CallValue) → after_call_of v j c (call_line v c call) ≡ Some (called_place v j c call)
-called_back strips v j c ShowCall =
-    ap (λ o. option_and_then (after_call_word v j c) o) (strips (call_front c (length (calls_so_far v c))) (codes "show"))
-called_back strips v j c (CommitCall commit) =
-    ap (λ o. option_and_then (after_call_word v j c) o) (strips (call_front c (length (calls_so_far v c))) (codes "commit"))
+called_back : (v : LiveValue) (j : JournalValue) (c : ℕ) (call : CallValue) → after_call_of v j c (call_line v c call) ≡ Some (called_place v j c call)
+called_back v j c ShowCall =
+    ap (λ o. option_and_then (after_call_word v j c) o) (after_prefix-append (call_front c (length (calls_so_far v c))) (codes "show"))
+called_back v j c (CommitCall commit) =
+    ap (λ o. option_and_then (after_call_word v j c) o) (after_prefix-append (call_front c (length (calls_so_far v c))) (codes "commit"))
 
 -- the tries of all controllers
 abbrev tries_2 : LiveValue → JournalValue → List ℕ → Option JournalPlace
@@ -152,23 +148,23 @@ abbrev tries : LiveValue → JournalValue → List ℕ → Option JournalPlace
 tries v j line = option_or (after_call_of v j 0 line) (tries_1 v j line)
 
 -- and for no controller before it
-tried : StripsFront → (v : LiveValue) (j : JournalValue) (c : ℕ) (call : CallValue) → c < 4 → tries v j (call_line v c call) ≡ Some (called_place v j c call)
+tried : (v : LiveValue) (j : JournalValue) (c : ℕ) (call : CallValue) → c < 4 → tries v j (call_line v c call) ≡ Some (called_place v j c call)
 unfolding digits
-tried strips v j zero call few = or_first (after_call_of v j 0 (call_line v 0 call)) (tries_1 v j (call_line v 0 call)) (called_place v j 0 call) (called_back strips v j 0 call)
-tried strips v j (suc zero) call few = or_first (after_call_of v j 1 (call_line v 1 call)) (tries_2 v j (call_line v 1 call)) (called_place v j 1 call) (called_back strips v j 1 call)
-tried strips v j (suc (suc zero)) call few = or_first (after_call_of v j 2 (call_line v 2 call)) (after_call_of v j 3 (call_line v 2 call)) (called_place v j 2 call) (called_back strips v j 2 call)
-tried strips v j (suc (suc (suc zero))) call few = called_back strips v j 3 call
-tried strips v j (suc (suc (suc (suc c)))) call few = absurd (omega (arith, few))
+tried v j zero call few = or_first (after_call_of v j 0 (call_line v 0 call)) (tries_1 v j (call_line v 0 call)) (called_place v j 0 call) (called_back v j 0 call)
+tried v j (suc zero) call few = or_first (after_call_of v j 1 (call_line v 1 call)) (tries_2 v j (call_line v 1 call)) (called_place v j 1 call) (called_back v j 1 call)
+tried v j (suc (suc zero)) call few = or_first (after_call_of v j 2 (call_line v 2 call)) (after_call_of v j 3 (call_line v 2 call)) (called_place v j 2 call) (called_back v j 2 call)
+tried v j (suc (suc (suc zero))) call few = called_back v j 3 call
+tried v j (suc (suc (suc (suc c)))) call few = absurd (omega (arith, few))
 
 -- so it leads to the place after it
-pub call_begins : StripsFront → (v : LiveValue) (j : JournalValue) (c : ℕ) (call : CallValue) → c < 4 → IsFree (replay v j).state.core.phase
+pub call_begins : (v : LiveValue) (j : JournalValue) (c : ℕ) (call : CallValue) → c < 4 → IsFree (replay v j).state.core.phase
     → after_entry v j (call_line v c call) ≡ Some (called_place v j c call)
-call_begins strips v j c call few free =
+call_begins v j c call few free =
     let line = call_line v c call in
     ap (λ o. option_or (option_map (λ (x : Entry × List Bool). InEntries v (longer j x.0 x.1)) o) (option_or (where_so (same_word line (codes "receipts") && is_idle (replay v j).state.core.phase) (InReceipts v j [])) (after_call v j line)))
     (no_entry (replay v j) (replay v j).state.core.phase c (length (calls_so_far v c)) (word_of call))
     ∙ ap (λ t. if t then tries v j line else None) (is_free-true (replay v j).state.core.phase free)
-    ∙ tried strips v j c call few
+    ∙ tried v j c call few
 
 -- ---- the block of a commit
 
@@ -203,22 +199,22 @@ parts_lead v j c before (p ∷ parts) lines are =
     ∙ parts_lead v j c (with_part before p) parts lines are.1
 
 -- the lines of a block lead to the answer
-commit_leads : EntryLaws → (v : LiveValue) (j : JournalValue) (c : ℕ) (commit : CommitValue) (lines : List (List ℕ)) → FitsCall v.setup.version (CommitCall commit)
+commit_leads : (v : LiveValue) (j : JournalValue) (c : ℕ) (commit : CommitValue) (lines : List (List ℕ)) → FitsCall v.setup.version (CommitCall commit)
     → leads_to (InBlock v j c no_commit) (written_commit commit ++ codes "apply" ∷ lines) ≡ leads_to (AtAnswer v j c (CommitCall commit)) lines
-commit_leads laws v j c commit lines fits =
-    let are = laws.block v.setup.version commit fits.0 fits.1 fits.2 in
+commit_leads v j c commit lines fits =
+    let are = parts_read_back v.setup.version commit fits.0 fits.1 fits.2 in
     parts_lead v j c no_commit (parts_of commit) (codes "apply" ∷ lines) are.each
     ∙ ap (λ d. leads_to (InBlock v j c d) (codes "apply" ∷ lines)) are.made
     ∙ leads_by (InBlock v j c commit) (AtAnswer v j c (CommitCall commit)) (codes "apply") lines refl
 
 -- and so do all lines of a call before it
-call_leads : EntryLaws → (v : LiveValue) (j : JournalValue) (c : ℕ) (call : CallValue) (lines : List (List ℕ)) → c < 4 → IsFree (replay v j).state.core.phase → FitsCall v.setup.version call
+call_leads : (v : LiveValue) (j : JournalValue) (c : ℕ) (call : CallValue) (lines : List (List ℕ)) → c < 4 → IsFree (replay v j).state.core.phase → FitsCall v.setup.version call
     → leads_to (InEntries v j) (call_lines c (length (calls_so_far v c)) call ++ lines) ≡ leads_to (AtAnswer v j c call) lines
-call_leads laws v j c ShowCall lines few free fits = leads_by (InEntries v j) (AtAnswer v j c ShowCall) (call_line v c ShowCall) lines (call_begins laws.strips v j c ShowCall few free)
-call_leads laws v j c (CommitCall commit) lines few free fits =
-    leads_by (InEntries v j) (InBlock v j c no_commit) (call_line v c (CommitCall commit)) ((written_commit commit ++ codes "apply" ∷ []) ++ lines) (call_begins laws.strips v j c (CommitCall commit) few free)
+call_leads v j c ShowCall lines few free fits = leads_by (InEntries v j) (AtAnswer v j c ShowCall) (call_line v c ShowCall) lines (call_begins v j c ShowCall few free)
+call_leads v j c (CommitCall commit) lines few free fits =
+    leads_by (InEntries v j) (InBlock v j c no_commit) (call_line v c (CommitCall commit)) ((written_commit commit ++ codes "apply" ∷ []) ++ lines) (call_begins v j c (CommitCall commit) few free)
     ∙ ap (leads_to (InBlock v j c no_commit)) (append_assoc (written_commit commit) (codes "apply" ∷ []) lines)
-    ∙ commit_leads laws v j c commit lines fits
+    ∙ commit_leads v j c commit lines fits
 
 -- ---- one entry
 
@@ -288,9 +284,9 @@ aggregate_reads v done j b tick pos is fits =
       steps_are = more.steps_are;
     }
 
-pub check_reads : EntryLaws → (v : LiveValue) (done : List (List CallValue)) (j : JournalValue) (b : List Bool) (pass : ℕ) → IsJournalOf (so_far v done) j → EntryFits v (replay_with (so_far v done) j b) (Check pass)
+pub check_reads : (v : LiveValue) (done : List (List CallValue)) (j : JournalValue) (b : List Bool) (pass : ℕ) → IsJournalOf (so_far v done) j → EntryFits v (replay_with (so_far v done) j b) (Check pass)
     → ReadsOn v done j b (Check pass) done
-check_reads laws v done j b pass is fits =
+check_reads v done j b pass is fits =
     let vd = so_far v done in
     let n = row_count (replay vd j).state.core in
     let bs = take n b in
@@ -300,17 +296,17 @@ check_reads laws v done j b pass is fits =
     let more = lengthened vd done j (Check pass) bs (λ c i x e. e) is (fits.0, fits.1, omega (arith, count)) none in
     record {
       journal = more.journal;
-      leads = λ lines. entry_leads vd j (spelled_check pass bs) (Check pass) bs lines (said_check laws.strips (replay vd j) (replay vd j).state.core.phase pass bs fits.0 fits.1 count);
+      leads = λ lines. entry_leads vd j (spelled_check pass bs) (Check pass) bs lines (said_check (replay vd j) (replay vd j).state.core.phase pass bs fits.0 fits.1 count);
       next =
           ap {A = List Bool} {B = Replayed} (λ l. record (carried v (replay_with vd j b) (Check pass)) { state = run (replay vd j).state (map (λ bit. load bit) l ++ observe ∷ []) }) (sym twice)
           ∙ sym (ap (with_results (drop n b)) more.is);
       steps_are = more.steps_are ∙ ap (λ l. steps vd j ++ load_steps pass (replay vd j).state.core.picks l) twice;
     }
 
-pub call_reads : EntryLaws → (v : LiveValue) (done : List (List CallValue)) (j : JournalValue) (b : List Bool) (c : ℕ) (answer : CallAnswer) (call : CallValue) → length done ≡ 4 → c < 4 → FitsCall v.setup.version call
+pub call_reads : (v : LiveValue) (done : List (List CallValue)) (j : JournalValue) (b : List Bool) (c : ℕ) (answer : CallAnswer) (call : CallValue) → length done ≡ 4 → c < 4 → FitsCall v.setup.version call
     → IsJournalOf (so_far v done) j → IsFree (replay (so_far v done) j).state.core.phase → call_at v c (length (slice_index_or done c [])) ≡ Some call → answer ≡ call_answer call (replay (so_far v done) j).state.core
     → ReadsOn v done j b (Call c (length (slice_index_or done c [])) answer) (added_to c call done)
-call_reads laws v done j b c answer call four few can is free there says =
+call_reads v done j b c answer call four few can is free there says =
     let vd = so_far v done in
     let i = length (slice_index_or done c []) in
     let e : Entry = Call c i answer in
@@ -323,7 +319,7 @@ call_reads laws v done j b c answer call four few can is free there says =
       leads = λ lines.
           ap (λ o. leads_to (InEntries vd j) (answered_lines c i answer o ++ lines)) there
           ∙ ap (leads_to (InEntries vd j)) (append_assoc (call_lines c i call) (spelled_answer answer ∷ []) lines)
-          ∙ call_leads laws vd j c call (spelled_answer answer ∷ lines) few free can
+          ∙ call_leads vd j c call (spelled_answer answer ∷ lines) few free can
           ∙ ap (λ a. leads_to (AtAnswer vd j c call) (spelled_answer a ∷ lines)) says
           ∙ leads_by (AtAnswer vd j c call) (InEntries (so_far v later) (longer j (Call c i (call_answer call (replay vd j).state.core)) [])) line lines
           (found (same_word line line) (InEntries (so_far v later) (longer j (Call c i (call_answer call (replay vd j).state.core)) [])) (same_line line))

@@ -5,10 +5,8 @@ use Rattle.std.proofs.Math.Seq.{take-length}
 use Rattle.std.specs.Prelude.{Option, Result, option_map, if◌then◌else◌}
 use Rattle.std.specs.List.{list_all}
 use Rattle.std.specs.Option.{option_or}
-use Rattle.damon_types.specs.declared.scheme.Version.{Version}
-use Rattle.damon_types.specs.declared.space.Target.{Target}
-use Rattle.damon_types.specs.Space.{page_of, pages_of}
-use Rattle.line_text.specs.Laws.{StripsOnlyFront}
+use Rattle.damon_types.specs.Space.{pages_of}
+use Rattle.line_text.proofs.Lemmas.{after_prefix-Some}
 use Rattle.line_text.specs.Line.{after_prefix}
 use Rattle.line_text.specs.Parts.{parts}
 use Rattle.live_commit.specs.declared.phase.Phase.{Phase}
@@ -17,11 +15,11 @@ use Rattle.live_commit.specs.Commit.{CommitValue}
 use Rattle.script_lines.specs.declared.part.Part.{Part}
 use Rattle.script_lines.specs.declared.kind.ScriptKind.{ScriptKind}
 use Rattle.script_lines.specs.Body.{no_commit, part_line, with_part}
-use Rattle.script_lines.specs.Laws.{ReadsOnlyParts}
+use Rattle.script_lines.proofs.Lemmas.{part_line-Ok}
 use Rattle.script_lines.specs.Words.{same_word}
 use Rattle.damon_core.specs.State.{row_count}
 use Rattle.damon_control.specs.declared.live.TheConstants.{MAX_WORKERS}
-use Rattle.damon_control.specs.CommitLines.{PartsKeepSpelling, WritesPartsInTurn}
+use Rattle.damon_control.proofs.Lemmas.{no_commit_fits, parts_keep, parts_written}
 use Rattle.damon_control.specs.Live.{CallValue, CommitCall, LiveValue, ShowCall}
 use Rattle.damon_control.specs.JournalHead.{head_lines}
 use Rattle.damon_control.specs.Spellable.{FitsCall}
@@ -48,15 +46,6 @@ use Rattle.run_journal.proofs.Lemmas.{added-keeps, added-last, added-of, called_
 use Rattle.journal_text.proofs.LongerLines.{lengthened-lines}
 use Rattle.journal_text.proofs.SeenSay.{AreSeen, none_seen}
 use Rattle.journal_text.proofs.Turns.{AreInTurn, IsNoCall, turn_called, turn_same}
-
--- the laws of the crates below
-pub record SayLaws : Type 0 where
-  pub strips : StripsOnlyFront
-  pub parts : ReadsOnlyParts
-  pub more : WritesPartsInTurn
-  pub none : (version : Version) → FitsCall version (CommitCall no_commit)
-  pub keep : PartsKeepSpelling
-  pub below : (ts : List Target) (target addr page : ℕ) → page_of ts target addr ≡ Some page → page < pages_of ts
 
 -- ---- entries that are no calls
 
@@ -88,8 +77,8 @@ n_bits_are n cs bits e =
     (bits_are cs some.0 some.1 ∙ ap (map bit_digit) count.1, ap length (sym count.1) ∙ many)
 
 -- an entry that is read fits, in each phase
-said_fits : StripsOnlyFront → (v : LiveValue) (r : Replayed) (ph : Phase) (line : List ℕ) (said : Entry × List Bool) → r.state.core.phase ≡ ph → said_entry r ph line ≡ Some said → SaidFits v r line said
-said_fits strips v r Idle line said phase e =
+said_fits : (v : LiveValue) (r : Replayed) (ph : Phase) (line : List ℕ) (said : Entry × List Bool) → r.state.core.phase ≡ ph → said_entry r ph line ≡ Some said → SaidFits v r line said
+said_fits v r Idle line said phase e =
     let prepare : Entry × List Bool = (Prepare (r.state.core.ticks + 1) r.drawn, []) in
     let is = if_some (same_word line (spelled_prepare (r.state.core.ticks + 1) r.drawn)) prepare said e in
     subst (SaidFits v r line) is.1 (record {
@@ -98,14 +87,14 @@ said_fits strips v r Idle line said phase e =
       none = refl;
       lines = ap (λ l. l ∷ []) (sym (is_line line (spelled_prepare (r.state.core.ticks + 1) r.drawn) is.0));
     })
-said_fits strips v r Armed line said phase e =
+said_fits v r Armed line said phase e =
     let n = row_count r.state.core in
     let pass = r.state.core.ticks + 1 in
     let some = map_some (λ (bits : List Bool). (Check pass, bits)) _ said e in
     let bits = some.0 in
     let rest = then_some (after_prefix (check_front pass) line) (n_bits_of n) bits some.1 in
     let are = n_bits_are n rest.0 bits rest.2 in
-    let whole : line ≡ spelled_check pass bits = strips (check_front pass) line rest.0 rest.1 ∙ ap (λ l. check_front pass ++ l) are.0 in
+    let whole : line ≡ spelled_check pass bits = after_prefix-Some (check_front pass) line rest.0 rest.1 ∙ ap (λ l. check_front pass ++ l) are.0 in
     let all : take n bits ≡ bits = ap (λ k. take k bits) (sym are.1) ∙ take-length bits in
     subst (SaidFits v r line) some.2 (record {
       no_call = tt;
@@ -113,7 +102,7 @@ said_fits strips v r Armed line said phase e =
       none = drop_of_length-le bits (omega (arith, are.1));
       lines = ap (λ bs. spelled_check pass bs ∷ []) all ∙ ap (λ l. l ∷ []) (sym whole);
     })
-said_fits strips v r VoidPhase line said phase e =
+said_fits v r VoidPhase line said phase e =
     let void : Entry × List Bool = (Void (r.state.core.ticks + 1), []) in
     let is = if_some (same_word line (spelled_void (r.state.core.ticks + 1))) void said e in
     subst (SaidFits v r line) is.1 (record {
@@ -122,7 +111,7 @@ said_fits strips v r VoidPhase line said phase e =
       none = refl;
       lines = ap (λ l. l ∷ []) (sym (is_line line (spelled_void (r.state.core.ticks + 1)) is.0));
     })
-said_fits strips v r Due line said phase e =
+said_fits v r Due line said phase e =
     let aggregate : Entry × List Bool = (Aggregate r.state.core.ticks r.drawn, []) in
     let is = if_some (same_word line (spelled_aggregate r.state.core.ticks r.drawn)) aggregate said e in
     subst (SaidFits v r line) is.1 (record {
@@ -131,8 +120,8 @@ said_fits strips v r Due line said phase e =
       none = refl;
       lines = ap (λ l. l ∷ []) (sym (is_line line (spelled_aggregate r.state.core.ticks r.drawn) is.0));
     })
-said_fits strips v r (Clearing k) line said phase e = absurd cc
-said_fits strips v r (Checking k) line said phase e = absurd cc
+said_fits v r (Clearing k) line said phase e = absurd cc
+said_fits v r (Checking k) line said phase e = absurd cc
 
 -- ---- what lines say that lead from the first entry to a place
 
@@ -213,11 +202,11 @@ is_idle-IsIdle (Checking k) e = absurd cc
 is_idle-IsIdle Due e = absurd cc
 
 -- a line of an entry that is no call
-entry_says : SayLaws → (head lines : List (List ℕ)) (v : LiveValue) (j : JournalValue) (line : List ℕ) (next : JournalPlace) → SayJournal head lines v j
+entry_says : (head lines : List (List ℕ)) (v : LiveValue) (j : JournalValue) (line : List ℕ) (next : JournalPlace) → SayJournal head lines v j
     → option_map (λ (x : Entry × List Bool). InEntries v (longer j x.0 x.1)) (said_entry (replay v j) (replay v j).state.core.phase line) ≡ Some next → SaysEntries head (lines ++ line ∷ []) next
-entry_says laws head lines v j line next before e =
+entry_says head lines v j line next before e =
     let some = map_some (λ (x : Entry × List Bool). InEntries v (longer j x.0 x.1)) (said_entry (replay v j) (replay v j).state.core.phase line) next e in
-    let fits = said_fits laws.strips v (replay v j) (replay v j).state.core.phase line some.0 refl some.1 in
+    let fits = said_fits v (replay v j) (replay v j).state.core.phase line some.0 refl some.1 in
     let more = lengthened v v.controllers j some.0.0 some.0.1 (λ c i x is. is) before.journal fits.fits fits.none in
     subst (SaysEntries head (lines ++ line ∷ [])) some.2 (record {
       spelled = ap (λ ls. ls ++ line ∷ []) before.spelled ∙ ap (λ ls. journal_lines v j ++ ls) (sym fits.lines) ∙ sym (lengthened-lines v v.controllers j some.0.0 some.0.1 (λ c i x is. is) before.journal);
@@ -229,11 +218,11 @@ entry_says laws head lines v j line next before e =
     })
 
 -- the first line of a call of this controller
-call_says : SayLaws → (head lines : List (List ℕ)) (v : LiveValue) (j : JournalValue) (c : ℕ) (line : List ℕ) (next : JournalPlace) → c < 4 → IsFree (replay v j).state.core.phase → SayJournal head lines v j
+call_says : (head lines : List (List ℕ)) (v : LiveValue) (j : JournalValue) (c : ℕ) (line : List ℕ) (next : JournalPlace) → c < 4 → IsFree (replay v j).state.core.phase → SayJournal head lines v j
     → after_call_of v j c line ≡ Some next → SaysEntries head (lines ++ line ∷ []) next
-call_says laws head lines v j c line next few free before e =
+call_says head lines v j c line next few free before e =
     let word = then_some (after_prefix (front_of c v) line) (after_call_word v j c) next e in
-    let whole : line ≡ front_of c v ++ word.0 = laws.strips (front_of c v) line word.0 word.1 in
+    let whole : line ≡ front_of c v ++ word.0 = after_prefix-Some (front_of c v) line word.0 word.1 in
     if_other (same_word word.0 (codes "show")) (AtAnswer v j c ShowCall) next (where_so (same_word word.0 (codes "commit")) (InBlock v j c no_commit))
     (λ show is. subst (SaysEntries head (lines ++ line ∷ [])) is (record {
       spelled = (λ i. before.spelled i ++ (whole ∙ ap (λ w. front_of c v ++ w) (is_line word.0 (codes "show") show)) i ∷ []);
@@ -257,7 +246,7 @@ call_says laws head lines v j c line next few free before e =
       free = free;
       few = few;
       can = before.can;
-      fits = laws.none v.setup.version;
+      fits = no_commit_fits v.setup.version;
     }))
     word.2
 
@@ -266,23 +255,23 @@ abbrev tries : LiveValue → JournalValue → List ℕ → Option JournalPlace
 tries v j line = option_or (after_call_of v j 0 line) (option_or (after_call_of v j 1 line) (option_or (after_call_of v j 2 line) (after_call_of v j 3 line)))
 
 -- the first line of a call, where one may be made
-called_says : SayLaws → (head lines : List (List ℕ)) (v : LiveValue) (j : JournalValue) (line : List ℕ) (next : JournalPlace) → SayJournal head lines v j
+called_says : (head lines : List (List ℕ)) (v : LiveValue) (j : JournalValue) (line : List ℕ) (next : JournalPlace) → SayJournal head lines v j
     → (test : Bool) → is_free (replay v j).state.core.phase ≡ test → (if test then tries v j line else None) ≡ Some next → SaysEntries head (lines ++ line ∷ []) next
-called_says laws head lines v j line next before false is tried = absurd cc
-called_says laws head lines v j line next before true is tried =
+called_says head lines v j line next before false is tried = absurd cc
+called_says head lines v j line next before true is tried =
     let free = is_free-IsFree (replay v j).state.core.phase is in
-    or_cases (after_call_of v j 0 line) _ next (call_says laws head lines v j 0 line next (omega arith) free before)
-    (or_cases (after_call_of v j 1 line) _ next (call_says laws head lines v j 1 line next (omega arith) free before)
-    (or_cases (after_call_of v j 2 line) _ next (call_says laws head lines v j 2 line next (omega arith) free before)
-    (call_says laws head lines v j 3 line next (omega arith) free before))) tried
+    or_cases (after_call_of v j 0 line) _ next (call_says head lines v j 0 line next (omega arith) free before)
+    (or_cases (after_call_of v j 1 line) _ next (call_says head lines v j 1 line next (omega arith) free before)
+    (or_cases (after_call_of v j 2 line) _ next (call_says head lines v j 2 line next (omega arith) free before)
+    (call_says head lines v j 3 line next (omega arith) free before))) tried
 
 -- a line among the entries
-pub in_entries : SayLaws → (head lines : List (List ℕ)) (v : LiveValue) (j : JournalValue) (line : List ℕ) (next : JournalPlace) → SayJournal head lines v j → after_entry v j line ≡ Some next → SaysEntries head (lines ++ line ∷ []) next
-in_entries laws head lines v j line next before e =
+pub in_entries : (head lines : List (List ℕ)) (v : LiveValue) (j : JournalValue) (line : List ℕ) (next : JournalPlace) → SayJournal head lines v j → after_entry v j line ≡ Some next → SaysEntries head (lines ++ line ∷ []) next
+in_entries head lines v j line next before e =
     or_cases (option_map (λ (x : Entry × List Bool). InEntries v (longer j x.0 x.1)) (said_entry (replay v j) (replay v j).state.core.phase line)) _ next
-    (entry_says laws head lines v j line next before)
+    (entry_says head lines v j line next before)
     (or_cases (where_so (same_word line (codes "receipts") && is_idle (replay v j).state.core.phase) (InReceipts v j [])) (after_call v j line) next receipts
-    (called_says laws head lines v j line next before (is_free (replay v j).state.core.phase) refl)) e
+    (called_says head lines v j line next before (is_free (replay v j).state.core.phase) refl)) e
   where
     receipts : where_so (same_word line (codes "receipts") && is_idle (replay v j).state.core.phase) (InReceipts v j []) ≡ Some next → SaysEntries head (lines ++ line ∷ []) next
     receipts here =
@@ -302,9 +291,9 @@ in_entries laws head lines v j line next before e =
 -- ---- the lines of a call
 
 -- a line of the block of a commit: `apply`, or a part
-pub in_block : SayLaws → (head lines : List (List ℕ)) (v : LiveValue) (j : JournalValue) (c : ℕ) (commit : CommitValue) (line : List ℕ) (next : JournalPlace)
+pub in_block : (head lines : List (List ℕ)) (v : LiveValue) (j : JournalValue) (c : ℕ) (commit : CommitValue) (line : List ℕ) (next : JournalPlace)
     → SayCallOf head lines ((front_of c v ++ codes "commit") ∷ written_commit commit) v j c (CommitCall commit) → after_block v j c commit line ≡ Some next → SaysEntries head (lines ++ line ∷ []) next
-in_block laws head lines v j c commit line next before e =
+in_block head lines v j c commit line next before e =
     if_other (same_word line (codes "apply")) (AtAnswer v j c (CommitCall commit)) next (after_part v j c commit line (part_line v.setup.version commit line)) applied (by (part_line v.setup.version commit line) refl) e
   where
     first : List ℕ
@@ -327,12 +316,12 @@ in_block laws head lines v j c commit line next before e =
     by (Err kind) read other = absurd cc
     by (Ok part) read other =
         let is = so_some (same_word line (part_text part)) (InBlock v j c (with_part commit part)) next other in
-        let may = (laws.parts v.setup.version commit line part read).0 in
+        let may = (part_line-Ok v.setup.version commit line part read).0 in
         subst (SaysEntries head (lines ++ line ∷ [])) is.1 (record {
           spelled =
               (λ i. before.spelled i ++ is_line line (part_text part) is.0 i ∷ [])
               ∙ append_assoc (journal_lines v j) (first ∷ written_commit commit) (part_text part ∷ [])
-              ∙ ap (λ ls. journal_lines v j ++ first ∷ ls) (sym (laws.more v.setup.version commit part may));
+              ∙ ap (λ ls. journal_lines v j ++ first ∷ ls) (sym (parts_written v.setup.version commit part may));
           journal = before.journal;
           head_is = before.head_is;
           four = before.four;
@@ -340,7 +329,7 @@ in_block laws head lines v j c commit line next before e =
           free = before.free;
           few = before.few;
           can = before.can;
-          fits = laws.keep v.setup.version commit line part read before.fits;
+          fits = parts_keep v.setup.version commit line part read before.fits;
         })
 
 -- a text can spell each call, and one call more

@@ -1,5 +1,5 @@
 -- The lines of one entry after another, with the results that are handed out beside them.
-use Rattle.std.proofs.Common.{◌≡◌, ℕ, List, ◌∷◌, ◌++◌, drop, take, ◌+◌, ◌<◌, get_or, length, [], Bool, refl, sym, ap, ◌∙◌, subst}
+use Rattle.std.proofs.Common.{◌≡◌, ℕ, List, ◌∷◌, ◌++◌, drop, take, ◌+◌, ◌<◌, get_or, length, [], Bool, refl, sym, ap, ◌∙◌, append_assoc, subst}
 use Rattle.std.proofs.lemmas.List.{drop_more, take_more}
 use Rattle.script_lines.specs.Lines.{lines_text}
 use Rattle.damon_control.specs.Live.{LiveValue}
@@ -8,7 +8,7 @@ use Rattle.run_journal.specs.declared.entry.Entry.TheVariants.{Prepare, Check, V
 use Rattle.run_journal.specs.Replay.{Replayed, bits_taken, carried, check_sizes_from, replay_from}
 use Rattle.run_journal.specs.Results.{bits_left, results_of, sizes_left}
 use Rattle.journal_text.specs.Text.{entries_lines, entry_lines}
-use Rattle.journal_text.proofs.Appended.{lines_added}
+use Rattle.script_lines.proofs.Lemmas.{lines_added}
 use Rattle.run_journal.proofs.Lemmas.{replay_from-snoc}
 
 -- the sizes of the checks hand to an entry the results that the replay takes, and leave those that it leaves
@@ -64,3 +64,7 @@ next_left v b xs es i d sizes more_sizes bits more_bits loaded text more whole s
       bits_are = bits_are ∙ after.bits_are;
       text_is = after.text_is;
     })
+
+-- a line of which the front was written before, and then other lines
+pub front_line : (text front word more : List ℕ) → ((text ++ front) ++ (word ++ 10 ∷ [])) ++ more ≡ text ++ ((front ++ word) ++ 10 ∷ more)
+front_line text front word more = simp append_assoc refl

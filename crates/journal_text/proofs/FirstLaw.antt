@@ -1,15 +1,17 @@
 -- What is read from a text is lawful, and the text is its text.
 use Rattle.std.proofs.Common.{◌≡◌, ℕ, zero, suc, List, [], ◌∷◌, ◌++◌, codes, Ok, refl, sym, ap, ◌∙◌, subst, append_assoc, append-nil, arith}
 use Rattle.damon_types.specs.Space.{pages_of}
-use Rattle.line_text.specs.Laws.{PutsPartsTogether, TakesApartPieces}
 use Rattle.line_text.specs.Parts.{joined, parts}
+use Rattle.line_text.proofs.Lemmas.{joined-parts, parts_clean, parts_some}
 use Rattle.script_lines.specs.Lines.{lines_text}
+use Rattle.script_lines.proofs.Lemmas.{joined_before, lines_text-append, parts_before}
 use Rattle.damon_core.specs.InPhase.{IsInPhase}
 use Rattle.damon_core.specs.Reached.{CanOpen, Reached}
 use Rattle.damon_core.specs.State.{State}
 use Rattle.damon_control.specs.declared.grammar.Grammar.TheVariants.{OfJournal}
-use Rattle.damon_control.specs.JournalHead.{HeadsAreWritable, ReadsOnlyHeads, head_lines}
+use Rattle.damon_control.specs.JournalHead.{head_lines}
 use Rattle.damon_control.specs.Script.{AtHeader, HeadValue, head_of, reads}
+use Rattle.damon_control.proofs.Lemmas.{heads_read_only, heads_writable}
 use Rattle.run_journal.specs.Lawful.{IsLawful}
 use Rattle.journal_text.specs.Place.{AtLast, InEntries, InHead, JournalRead, uncalled}
 use Rattle.run_journal.specs.Replay.{replay}
@@ -18,23 +20,13 @@ use Rattle.run_journal.specs.Limits.{CanCall}
 use Rattle.journal_text.specs.Rules.{KeepsRules, ReadsOnlyLawful}
 use Rattle.run_journal.specs.Steps.{steps}
 use Rattle.journal_text.specs.Text.{journal_lines, journal_text, last_text, seen_lines, settled_lines}
-use Rattle.journal_text.proofs.Appended.{lines_text-append}
-use Rattle.journal_text.proofs.Common.{Pieces, joined_before, parts-some, parts_before, pieces_front}
-use Rattle.journal_text.proofs.EntriesSay.{CanSpell, SayLast, SayLaws}
+use Rattle.journal_text.proofs.Common.{Pieces, pieces_front}
+use Rattle.journal_text.proofs.EntriesSay.{CanSpell, SayLast}
 use Rattle.journal_text.proofs.HeadSay.{head_led}
 use Rattle.journal_text.proofs.Leading.{Led, said_led}
 use Rattle.journal_text.proofs.LinesSay.{lines_say}
 use Rattle.journal_text.proofs.NumbersRead.{read_fit}
 use Rattle.journal_text.proofs.SeenSay.{all_seen}
-use Rattle.run_journal.proofs.Lemmas.{CommitLaws}
-
--- the laws of the crates below
-pub record FirstLaws : Type 0 where
-  pub say : SayLaws
-  pub heads : ReadsOnlyHeads
-  pub writable : HeadsAreWritable
-  pub together : PutsPartsTogether
-  pub apart : TakesApartPieces
 
 -- a text whose head and whose other lines say this
 record SayText (text : List ℕ) (said : JournalRead) : Type 0 where
@@ -54,8 +46,8 @@ record IsReadText (text : List ℕ) (said : JournalRead) : Type 0 where
   spelled : text ≡ journal_text said.live said.journal said.receipts
 
 -- that text is the one of what was read, which is lawful
-text_of_lawful : PutsPartsTogether → (text : List ℕ) (said : JournalRead) → SayText text said → IsReadText text said
-text_of_lawful together text said is =
+text_of_lawful : (text : List ℕ) (said : JournalRead) → SayText text said → IsReadText text said
+text_of_lawful text said is =
     let v = said.live in
     let j = said.journal in
     let own = head_lines v.seed v.setup in
@@ -73,7 +65,7 @@ text_of_lawful together text said is =
     ∙ lines_text-append all shown
     in
     let ends : lines_text shown ++ is.last ≡ last_text (replay v j).state =
-    sym (joined_before shown (is.last ∷ []) (omega arith)) ∙ ap (joined 10) is.says.rest ∙ (together 10 (last_text (replay v j).state)).0
+    sym (joined_before shown (is.last ∷ []) (omega arith)) ∙ ap (joined 10) is.says.rest ∙ joined-parts 10 (last_text (replay v j).state)
     in
     record {
       lawful = record {
@@ -95,13 +87,13 @@ no_call h (suc (suc (suc zero))) i call is = absurd cc
 no_call h (suc (suc (suc (suc c)))) i call is = absurd cc
 
 -- a text that is read, with its lines
-read_says : FirstLaws → (text : List ℕ) (said : JournalRead) → Led (InHead AtHeader) (parts 10 text) said → SayText text said
-read_says laws text said led =
+read_says : (text : List ℕ) (said : JournalRead) → Led (InHead AtHeader) (parts 10 text) said → SayText text said
+read_says text said led =
     let head = head_led AtHeader led.lines said (led.last ∷ []) led.lead in
-    let pieces : Pieces (led.lines ++ led.last ∷ []) = subst Pieces led.whole (laws.together 10 text).1 in
+    let pieces : Pieces (led.lines ++ led.last ∷ []) = subst Pieces led.whole (parts_clean 10 text) in
     let front : Pieces head.front = pieces_front head.front head.body (subst Pieces head.split (pieces_front led.lines (led.last ∷ []) pieces)) in
     let h = head.head in
-    let apart : parts 10 (lines_text head.front ++ []) ≡ head.front ++ [] ∷ [] = parts_before laws.apart laws.together head.front [] front in
+    let apart : parts 10 (lines_text head.front ++ []) ≡ head.front ++ [] ∷ [] = parts_before head.front [] front in
     let is_head : head_of (lines_text head.front ++ []) ≡ Ok h = ap (reads OfJournal 1 AtHeader) apart ∙ head.read 1 in
     let nothing : lines_text head.front ++ [] ≡ lines_text head.front = append-nil (lines_text head.front) in
     record {
@@ -110,21 +102,21 @@ read_says laws text said led =
       body = head.body;
       last = led.last;
       whole =
-          sym (laws.together 10 text).0
+          sym (joined-parts 10 text)
           ∙ ap (joined 10) (led.whole ∙ ap (λ ls. ls ++ led.last ∷ []) head.split)
           ∙ joined_before (head.front ++ head.body) (led.last ∷ []) (omega arith);
-      head_is = sym nothing ∙ laws.heads (lines_text head.front ++ []) h is_head;
-      says = lines_say laws.say (head_lines h.seed h.setup) [] (InEntries (uncalled h) nothing_said) head.body (AtLast said (led.last ∷ []))
-          (record { spelled = refl; journal = record { fit = tt; none_left = refl }; head_is = refl; four = refl; turn = record { turn = tt; next = refl }; can = (laws.writable (lines_text head.front ++ []) h is_head, no_call h) })
+      head_is = sym nothing ∙ heads_read_only (lines_text head.front ++ []) h is_head;
+      says = lines_say (head_lines h.seed h.setup) [] (InEntries (uncalled h) nothing_said) head.body (AtLast said (led.last ∷ []))
+          (record { spelled = refl; journal = record { fit = tt; none_left = refl }; head_is = refl; four = refl; turn = record { turn = tt; next = refl }; can = (heads_writable (lines_text head.front ++ []) h is_head, no_call h) })
           head.lead;
     }
 
 -- each text that is read is the text of a lawful journal
-pub first_law : FirstLaws → CommitLaws → ((s : State) → Reached s → IsInPhase s) → ReadsOnlyLawful
-first_law laws commits in_phase text said few e =
-    let is = text_of_lawful laws.together text said (read_says laws text said (said_led 1 (InHead AtHeader) (parts 10 text) said (parts-some 10 text) e)) in
+pub journals_read_only : ((s : State) → Reached s → IsInPhase s) → ReadsOnlyLawful
+journals_read_only in_phase text said few e =
+    let is = text_of_lawful text said (read_says text said (said_led 1 (InHead AtHeader) (parts 10 text) said (parts_some 10 text) e)) in
     let opens : CanOpen said.live.setup = record { space = is.can.0.space; sound = is.can.0.setup; order = is.can.0.order } in
-    let fit = read_fit commits in_phase text said.live said.journal said.receipts opens is.can.1 is.rules.turn is.lawful is.spelled few in
+    let fit = read_fit in_phase text said.live said.journal said.receipts opens is.can.1 is.rules.turn is.lawful is.spelled few in
     record {
       lawful = is.lawful;
       spellable = record { setup = is.can.0; calls = is.can.1; rules = is.rules; numbers = fit.numbers; tags = fit.tags };

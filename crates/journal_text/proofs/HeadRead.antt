@@ -1,18 +1,20 @@
 -- The lines of a head that is read lead to the entries.
 use Rattle.std.proofs.Common.{◌≡◌, ℕ, ◌+◌, ◌<◌, List, [], ◌∷◌, ◌++◌, length, Some, Ok, Err, refl, sym, ap, ◌∙◌, subst, append-nil, arith}
 use Rattle.std.specs.Prelude.{Result}
-use Rattle.line_text.specs.Laws.{PutsPartsTogether}
 use Rattle.line_text.specs.Parts.{joined, parts}
+use Rattle.line_text.proofs.Lemmas.{joined-parts, parts_clean, parts_some}
 use Rattle.live_commit.specs.Setup.{SetupValue}
 use Rattle.script_lines.specs.declared.kind.ScriptKind.{ScriptKind}
 use Rattle.script_lines.specs.Lines.{lines_text}
+use Rattle.script_lines.proofs.Lemmas.{joined_before}
 use Rattle.damon_control.specs.declared.grammar.Grammar.TheVariants.{OfJournal}
-use Rattle.damon_control.specs.JournalHead.{ReadsHeadsBack, head_lines}
+use Rattle.damon_control.specs.JournalHead.{head_lines}
 use Rattle.damon_control.specs.Script.{AtAttrs, AtCap, AtEnd, AtHeader, AtRanges, AtSchemes, AtSeed, AtTargets, AtUnit, HeadValue, InBody, InCommit, Place, at, at_text_end, place_after, reads}
 use Rattle.damon_control.specs.WriteBack.{IsWritable}
+use Rattle.damon_control.proofs.Lemmas.{heads_read_back}
 use Rattle.journal_text.specs.Place.{InEntries, InHead, after_head, uncalled}
 use Rattle.run_journal.specs.Room.{nothing_said}
-use Rattle.journal_text.proofs.Common.{Pieces, bind-Ok, joined_before, parts-some, pieces_front}
+use Rattle.journal_text.proofs.Common.{Pieces, bind-Ok, pieces_front}
 use Rattle.journal_text.proofs.HeadSay.{head_line}
 use Rattle.journal_text.proofs.Leading.{leads_by, leads_to}
 
@@ -71,14 +73,14 @@ pub record IsHeadRead (seed : ℕ) (setup : SetupValue) : Type 0 where
   pub lead : leads_to (InHead AtHeader) lines ≡ Some (InEntries (uncalled (record { seed = seed; setup = setup })) nothing_said)
 
 -- the text of a head is read, and so its lines lead to the entries
-pub head_read : ReadsHeadsBack → PutsPartsTogether → (seed : ℕ) (setup : SetupValue) → IsWritable seed setup → IsHeadRead seed setup
-head_read back together seed setup is =
+pub head_read : (seed : ℕ) (setup : SetupValue) → IsWritable seed setup → IsHeadRead seed setup
+head_read seed setup is =
     let text = lines_text (head_lines seed setup) in
     let none : List (List ℕ) = [] ∷ [] in
-    let led = head_leads 1 AtHeader (parts 10 text) (record { seed = seed; setup = setup }) (parts-some 10 text) (back seed setup is) in
+    let led = head_leads 1 AtHeader (parts 10 text) (record { seed = seed; setup = setup }) (parts_some 10 text) (heads_read_back seed setup is) in
     record {
       lines = led.lines;
-      text = sym (append-nil (lines_text led.lines)) ∙ sym (joined_before led.lines none (omega arith)) ∙ ap (joined 10) (sym led.whole) ∙ (together 10 text).0;
-      pieces = pieces_front led.lines none (subst Pieces led.whole (together 10 text).1);
+      text = sym (append-nil (lines_text led.lines)) ∙ sym (joined_before led.lines none (omega arith)) ∙ ap (joined 10) (sym led.whole) ∙ joined-parts 10 text;
+      pieces = pieces_front led.lines none (subst Pieces led.whole (parts_clean 10 text));
       lead = led.lead;
     }

@@ -12,7 +12,7 @@ use Rattle.run_journal.specs.Replay.{JournalValue}
 use Rattle.journal_text.specs.Spelled.{spelled_seen}
 use Rattle.journal_text.specs.Text.{entries_lines, seen_lines}
 use Rattle.journal_text.specs.TextParts.{entries_left, replay_to, without_first}
-use Rattle.journal_text.proofs.Appended.{lines_added, lines_text-append}
+use Rattle.script_lines.proofs.Lemmas.{lines_added, lines_text-append}
 
 -- lines were appended after others, and other text is left after them
 pub lines_passed : (before text : List ℕ) (a b : List (List ℕ)) (last : List ℕ) → text ≡ before ++ lines_text a → text ++ (lines_text b ++ last) ≡ before ++ (lines_text (a ++ b) ++ last)

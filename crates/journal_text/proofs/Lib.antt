@@ -1,5 +1,4 @@
 pub mod Digits
-pub mod Appended
 pub mod SeenGroups
 pub mod SeenText
 pub mod EntriesText
@@ -21,8 +20,8 @@ pub mod HeadRead
 pub mod Pieces
 pub mod SecondLaw
 pub mod ReadBack
-pub mod VerifyExamples
 pub mod Examples
+pub mod VerifyExamples
 pub mod NumbersRead
 pub mod AggregatedExamples
 pub mod Lemmas

@@ -6,6 +6,7 @@ use Rattle.std.specs.Prelude.{Result, replicate, if◌then◌else◌}
 use Rattle.std.specs.List.{list_all}
 use Rattle.damon_types.specs.declared.space.Target.{Target}
 use Rattle.damon_types.specs.Space.{page_of, pages_of}
+use Rattle.damon_types.proofs.Lemmas.{page_of-below}
 use Rattle.line_text.specs.Parts.{parts}
 use Rattle.script_lines.specs.declared.kind.ScriptKind.{ScriptKind}
 use Rattle.script_lines.specs.Refusal.{◌>>=◌}
@@ -24,7 +25,7 @@ use Rattle.journal_text.specs.Spelled.{spelled_seen}
 use Rattle.run_journal.specs.Steps.{steps}
 use Rattle.journal_text.specs.Text.{journal_lines, last_text, seen_lines}
 use Rattle.journal_text.proofs.Common.{both_are, if_some, is_line, map_some, or_cases, then_some}
-use Rattle.journal_text.proofs.EntriesSay.{SayLast, SayLaws, SaySeen, SaysEntries, at_answer, in_block, in_entries}
+use Rattle.journal_text.proofs.EntriesSay.{SayLast, SaySeen, SaysEntries, at_answer, in_block, in_entries}
 use Rattle.journal_text.proofs.Leading.{leads_to, so_some}
 use Rattle.journal_text.proofs.SeenSay.{count_more, count_padded, seen_added}
 
@@ -64,22 +65,22 @@ record SaidSeen (space : List Target) (line : List ℕ) (x : ℕ × Receipt) : T
   below : x.1.page < pages_of space
 
 -- the page that an address says is one of the space
-seen_below : ((ts : List Target) (target addr page : ℕ) → page_of ts target addr ≡ Some page → page < pages_of ts) → (space : List Target) (r : Result (ℕ × (ℕ × (ℕ × ℕ))) ScriptKind) (said : ℕ × Receipt)
+seen_below : (space : List Target) (r : Result (ℕ × (ℕ × (ℕ × ℕ))) ScriptKind) (said : ℕ × Receipt)
     → seen_of space r ≡ Some said → said.1.page < pages_of space
-seen_below law space (Err kind) said is = absurd cc
-seen_below law space (Ok x) said is =
+seen_below space (Err kind) said is = absurd cc
+seen_below space (Ok x) said is =
     let page = map_some (λ page. (x.0, record { page = page; tag = x.1.1.1 })) (page_of space x.1.0 x.1.1.0) said is in
-    subst (λ (s : ℕ × Receipt). s.1.page < pages_of space) page.2 (law space x.1.0 x.1.1.0 page.0 page.1)
+    subst (λ (s : ℕ × Receipt). s.1.page < pages_of space) page.2 (page_of-below space x.1.0 x.1.1.0 page.0 page.1)
 
 -- a line is compared with the spelling of what it says
-said_seen : SayLaws → (space : List Target) (line : List ℕ) (x : ℕ × Receipt) → seen_line space line ≡ Some x → SaidSeen space line x
-said_seen laws space line x e =
+said_seen : (space : List Target) (line : List ℕ) (x : ℕ × Receipt) → seen_line space line ≡ Some x → SaidSeen space line x
+said_seen space line x e =
     let read = seen_of space (arguments (codes "seen") line >>= seen_fields) in
     let y = then_some read (λ (y : ℕ × Receipt). if same_word line (spelled_seen space y.0 y.1) then Some y else None) x e in
     let is = if_some (same_word line (spelled_seen space y.0.0 y.0.1)) y.0 x y.2 in
     subst (SaidSeen space line) is.1 (record {
       spelled = is_line line (spelled_seen space y.0.0 y.0.1) is.0;
-      below = seen_below laws.below space (arguments (codes "seen") line >>= seen_fields) y.0 y.1;
+      below = seen_below space (arguments (codes "seen") line >>= seen_fields) y.0 y.1;
     })
 
 -- a receipt that may come next
@@ -98,14 +99,14 @@ may_come_next v j all w r e =
     record { few = grind (arith, nat_tests, worker.0); within = grind (arith, nat_tests, worker.1); named = tests.0; risen = tests.1 }
 
 -- a `seen` line
-seen_says : SayLaws → (head lines : List (List ℕ)) (v : LiveValue) (j : JournalValue) (all : List (List Receipt)) (line : List ℕ) (next : JournalPlace)
+seen_says : (head lines : List (List ℕ)) (v : LiveValue) (j : JournalValue) (all : List (List Receipt)) (line : List ℕ) (next : JournalPlace)
     → SaySeen head lines [] v j all → after_seen v j all line ≡ Some next → SaysEntries head (lines ++ line ∷ []) next
-seen_says laws head lines v j all line next before e =
+seen_says head lines v j all line next before e =
     let space = v.setup.space in
     let x = then_some (seen_line space line) (λ (x : ℕ × Receipt). where_so (may_be_seen (steps v j) all x.0 x.1) (InReceipts v j (with_receipt all x.0 x.1))) next e in
     let w = x.0.0 in
     let r = x.0.1 in
-    let said = said_seen laws space line x.0 x.1 in
+    let said = said_seen space line x.0 x.1 in
     let is = so_some (may_be_seen (steps v j) all w r) (InReceipts v j (with_receipt all w r)) next x.2 in
     let may = may_come_next v j all w r is.0 in
     let so_far = seen_lines space 0 all in
@@ -184,21 +185,21 @@ at_last head lines said (w ∷ wanted ∷ more) line next before e =
 -- ---- all lines
 
 -- one line more, from any place
-line_says : SayLaws → (head lines : List (List ℕ)) (place : JournalPlace) (line : List ℕ) (next : JournalPlace) → SaysEntries head lines place → line_after place line ≡ Some next → SaysEntries head (lines ++ line ∷ []) next
-line_says laws head lines (InEntries v j) line next before e = in_entries laws head lines v j line next before e
-line_says laws head lines (InBlock v j c commit) line next before e = in_block laws head lines v j c commit line next before e
-line_says laws head lines (AtAnswer v j c call) line next before e = at_answer head lines v j c call line next before e
-line_says laws head lines (InReceipts v j all) line next before e =
-    or_cases (after_settled v j all line) (after_seen v j all line) next (settled_says head lines v j all line next before) (seen_says laws head lines v j all line next before) e
-line_says laws head lines (AtLast said wanted) line next before e = at_last head lines said wanted line next before e
-line_says laws head lines (InHead p) line next before e = absurd before
+line_says : (head lines : List (List ℕ)) (place : JournalPlace) (line : List ℕ) (next : JournalPlace) → SaysEntries head lines place → line_after place line ≡ Some next → SaysEntries head (lines ++ line ∷ []) next
+line_says head lines (InEntries v j) line next before e = in_entries head lines v j line next before e
+line_says head lines (InBlock v j c commit) line next before e = in_block head lines v j c commit line next before e
+line_says head lines (AtAnswer v j c call) line next before e = at_answer head lines v j c call line next before e
+line_says head lines (InReceipts v j all) line next before e =
+    or_cases (after_settled v j all line) (after_seen v j all line) next (settled_says head lines v j all line next before) (seen_says head lines v j all line next before) e
+line_says head lines (AtLast said wanted) line next before e = at_last head lines said wanted line next before e
+line_says head lines (InHead p) line next before e = absurd before
 
 -- all lines, one after another
-pub lines_say : SayLaws → (head front : List (List ℕ)) (place : JournalPlace) (lines : List (List ℕ)) (last : JournalPlace) → SaysEntries head front place → leads_to place lines ≡ Some last → SaysEntries head (front ++ lines) last
-lines_say laws head front place [] last before e =
+pub lines_say : (head front : List (List ℕ)) (place : JournalPlace) (lines : List (List ℕ)) (last : JournalPlace) → SaysEntries head front place → leads_to place lines ≡ Some last → SaysEntries head (front ++ lines) last
+lines_say head front place [] last before e =
     let is : place ≡ last = cc in
     subst (λ ls. SaysEntries head ls last) (sym (append-nil front)) (subst (SaysEntries head front) is before)
-lines_say laws head front place (line ∷ lines) last before e =
+lines_say head front place (line ∷ lines) last before e =
     let next = then_some (line_after place line) (λ p. leads_to p lines) last e in
     subst (λ ls. SaysEntries head ls last) (append_assoc front (line ∷ []) lines)
-    (lines_say laws head (front ++ line ∷ []) next.0 lines last (line_says laws head front place line next.0 before next.1) next.2)
+    (lines_say head (front ++ line ∷ []) next.0 lines last (line_says head front place line next.0 before next.1) next.2)

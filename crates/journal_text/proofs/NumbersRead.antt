@@ -19,7 +19,7 @@ use Rattle.run_journal.specs.Replay.{EntriesFit, EntryFits, IsJournalOf, Journal
 use Rattle.journal_text.specs.Rules.{CallsInTurn, InTurn, one_more}
 use Rattle.journal_text.specs.Spelled.{answered_lines, call_lines, spelled_answer}
 use Rattle.journal_text.specs.Text.{entries_lines, entry_lines, journal_lines, journal_text, last_text, seen_lines, settled_lines}
-use Rattle.run_journal.proofs.Lemmas.{CallPlaceFits, fit_numbers, CommitLaws}
+use Rattle.run_journal.proofs.Lemmas.{CallPlaceFits, fit_numbers}
 
 -- those of calls that are numbered in turn, of which each controller has at most this many before them
 index_few : (next : List ℕ) (c n : ℕ) → AllByRecursion (λ k. k ≤ n) next → slice_index_or next c 0 ≤ n
@@ -91,9 +91,9 @@ text_short v j all is =
     omega (arith, entries_short v j.entries (begun v j.bits) is.fit, length-append entries rest, length-append head (entries ++ rest), lines_short (settled_lines v j all), length-append (lines_text (settled_lines v j all)) (last_text (replay v j).state))
 
 -- the numbers of what a text says are within their types
-pub read_fit : CommitLaws → ((s : State) → Reached s → IsInPhase s) → (text : List ℕ) (v : LiveValue) (j : JournalValue) (all : List (List Receipt)) → CanOpen v.setup → CanCall v → CallsInTurn j.entries → IsLawful v j all
+pub read_fit : ((s : State) → Reached s → IsInPhase s) → (text : List ℕ) (v : LiveValue) (j : JournalValue) (all : List (List Receipt)) → CanOpen v.setup → CanCall v → CallsInTurn j.entries → IsLawful v j all
     → text ≡ journal_text v j all → length text ≤ 16777216 → NumbersFit j all
-read_fit commits in_phase text v j all can call turn lawful spelled few =
+read_fit in_phase text v j all can call turn lawful spelled few =
     let count : length text ≡ length (journal_text v j all) = ap length spelled in
     let short : length j.entries ≤ 16777216 = omega (arith, text_short v j all lawful.journal, count, few) in
-    fit_numbers commits in_phase v j all can call (turn_places (0 ∷ 0 ∷ 0 ∷ 0 ∷ []) 0 j.entries (omega arith) (omega arith, (omega arith, (omega arith, (omega arith, tt)))) turn (omega (arith, short))) lawful (omega (arith, prepares_short j.entries, short))
+    fit_numbers in_phase v j all can call (turn_places (0 ∷ 0 ∷ 0 ∷ 0 ∷ []) 0 j.entries (omega arith) (omega arith, (omega arith, (omega arith, (omega arith, tt)))) turn (omega (arith, short))) lawful (omega (arith, prepares_short j.entries, short))

@@ -18,9 +18,9 @@ use Rattle.live_commit.specs.Commit.{CommitValue}
 use Rattle.line_text.specs.Parts.{IsPiece, is_printable}
 use Rattle.script_lines.specs.declared.part.Part.{Part}
 use Rattle.script_lines.specs.Body.{no_commit, with_part}
-use Rattle.script_lines.specs.Laws.{WordLaws}
 use Rattle.damon_control.specs.declared.live.TheConstants.{MAX_WORKERS}
-use Rattle.damon_control.specs.CommitLines.{AreReadAfter, ReadsPartsBack}
+use Rattle.damon_control.specs.CommitLines.{AreReadAfter}
+use Rattle.damon_control.proofs.Lemmas.{parts_read_back}
 use Rattle.damon_control.specs.Live.{CallValue, CommitCall, LiveValue, ShowCall}
 use Rattle.damon_control.specs.Written.{part_text, parts_of, written_commit}
 use Rattle.damon_control.specs.Spellable.{FitsCall}
@@ -45,12 +45,12 @@ both : (a b : List ℕ) → IsPiece 10 a → IsPiece 10 b → IsPiece 10 (a ++ b
 both a b one two = All-append (λ c. c ≢ 10) a b one two
 
 -- a word and a number
-with_number : WordLaws → (first : List ℕ) (n : ℕ) → IsPiece 10 first → n < 2 ^ 64 → IsPiece 10 (first ++ decimal n)
-with_number laws first n f small = both first (decimal n) f (number_piece laws n small)
+with_number : (first : List ℕ) (n : ℕ) → IsPiece 10 first → n < 2 ^ 64 → IsPiece 10 (first ++ decimal n)
+with_number first n f small = both first (decimal n) f (number_piece n small)
 
 -- a word, a number and what follows
-then_more : WordLaws → (first : List ℕ) (n : ℕ) (more : List ℕ) → IsPiece 10 first → n < 2 ^ 64 → IsPiece 10 more → IsPiece 10 (first ++ (decimal n ++ more))
-then_more laws first n more f small m = both first (decimal n ++ more) f (both (decimal n) more (number_piece laws n small) m)
+then_more : (first : List ℕ) (n : ℕ) (more : List ℕ) → IsPiece 10 first → n < 2 ^ 64 → IsPiece 10 more → IsPiece 10 (first ++ (decimal n ++ more))
+then_more first n more f small m = both first (decimal n ++ more) f (both (decimal n) more (number_piece n small) m)
 
 -- the digits of results have no LF
 digits_piece : (bits : List Bool) → IsPiece 10 (map bit_digit bits)
@@ -87,32 +87,32 @@ range_piece TooSmall = literal (codes "too-small") refl
 range_piece BadClass = literal (codes "bad-class") refl
 range_piece Overlap = literal (codes "overlap") refl
 
-refusal_piece : WordLaws → (fault : CommitFault) → FaultFits fault → IsPiece 10 (refusal_text fault)
-refusal_piece laws (Busy next) fits = with_number laws (codes "busy next=") next (literal (codes "busy next=") refl) fits
-refusal_piece laws NoRange fits = literal (codes "no-range") refl
-refusal_piece laws (BadRange index why) fits =
-    then_more laws (codes "bad-range index=") index (codes " " ++ range_why why) (literal (codes "bad-range index=") refl) fits (both (codes " ") (range_why why) (literal (codes " ") refl) (range_piece why))
-refusal_piece laws (RangesOverMax ranges max) fits =
-    then_more laws (codes "ranges-over-max ranges=") ranges (codes " max=" ++ decimal max) (literal (codes "ranges-over-max ranges=") refl) fits.0 (with_number laws (codes " max=") max (literal (codes " max=") refl) fits.1)
-refusal_piece laws (BadAttrs why) fits = both (codes "bad-attrs ") (attrs_why why) (literal (codes "bad-attrs ") refl) (attrs_piece why)
-refusal_piece laws (OverCap max most) fits =
-    then_more laws (codes "over-cap max=") max (codes " cap=" ++ decimal most) (literal (codes "over-cap max=") refl) fits.0 (with_number laws (codes " cap=") most (literal (codes " cap=") refl) fits.1)
-refusal_piece laws (BadScheme why) fits = both (codes "bad-scheme ") (scheme_why why) (literal (codes "bad-scheme ") refl) (scheme_piece why)
-refusal_piece laws (BadCost slot) fits = with_number laws (codes "bad-cost slot=") slot (literal (codes "bad-cost slot=") refl) (omega (arith, fits))
+refusal_piece : (fault : CommitFault) → FaultFits fault → IsPiece 10 (refusal_text fault)
+refusal_piece (Busy next) fits = with_number (codes "busy next=") next (literal (codes "busy next=") refl) fits
+refusal_piece NoRange fits = literal (codes "no-range") refl
+refusal_piece (BadRange index why) fits =
+    then_more (codes "bad-range index=") index (codes " " ++ range_why why) (literal (codes "bad-range index=") refl) fits (both (codes " ") (range_why why) (literal (codes " ") refl) (range_piece why))
+refusal_piece (RangesOverMax ranges max) fits =
+    then_more (codes "ranges-over-max ranges=") ranges (codes " max=" ++ decimal max) (literal (codes "ranges-over-max ranges=") refl) fits.0 (with_number (codes " max=") max (literal (codes " max=") refl) fits.1)
+refusal_piece (BadAttrs why) fits = both (codes "bad-attrs ") (attrs_why why) (literal (codes "bad-attrs ") refl) (attrs_piece why)
+refusal_piece (OverCap max most) fits =
+    then_more (codes "over-cap max=") max (codes " cap=" ++ decimal most) (literal (codes "over-cap max=") refl) fits.0 (with_number (codes " cap=") most (literal (codes " cap=") refl) fits.1)
+refusal_piece (BadScheme why) fits = both (codes "bad-scheme ") (scheme_why why) (literal (codes "bad-scheme ") refl) (scheme_piece why)
+refusal_piece (BadCost slot) fits = with_number (codes "bad-cost slot=") slot (literal (codes "bad-cost slot=") refl) (omega (arith, fits))
 
 yes_piece : (b : Bool) → IsPiece 10 (yes_or_no b)
 yes_piece true = literal (codes "yes") refl
 yes_piece false = literal (codes "no") refl
 
-said_piece : WordLaws → (answer : CallAnswer) → AnswerFits answer → IsPiece 10 (answer_said answer)
-said_piece laws (Shown tick rows) fits =
-    then_more laws (codes "shown tick=") tick (codes " rows=" ++ decimal rows) (literal (codes "shown tick=") refl) fits.0 (with_number laws (codes " rows=") rows (literal (codes " rows=") refl) fits.1)
-said_piece laws (Changed rows void) fits =
-    then_more laws (codes "ok rows=") rows (codes " void=" ++ yes_or_no void) (literal (codes "ok rows=") refl) fits (both (codes " void=") (yes_or_no void) (literal (codes " void=") refl) (yes_piece void))
-said_piece laws (Refused fault) fits = both (codes "refused ") (refusal_text fault) (literal (codes "refused ") refl) (refusal_piece laws fault fits)
+said_piece : (answer : CallAnswer) → AnswerFits answer → IsPiece 10 (answer_said answer)
+said_piece (Shown tick rows) fits =
+    then_more (codes "shown tick=") tick (codes " rows=" ++ decimal rows) (literal (codes "shown tick=") refl) fits.0 (with_number (codes " rows=") rows (literal (codes " rows=") refl) fits.1)
+said_piece (Changed rows void) fits =
+    then_more (codes "ok rows=") rows (codes " void=" ++ yes_or_no void) (literal (codes "ok rows=") refl) fits (both (codes " void=") (yes_or_no void) (literal (codes " void=") refl) (yes_piece void))
+said_piece (Refused fault) fits = both (codes "refused ") (refusal_text fault) (literal (codes "refused ") refl) (refusal_piece fault fits)
 
-answer_piece : WordLaws → (answer : CallAnswer) → AnswerFits answer → IsPiece 10 (spelled_answer answer)
-answer_piece laws answer fits = both (codes "answer ") (answer_said answer) (literal (codes "answer ") refl) (said_piece laws answer fits)
+answer_piece : (answer : CallAnswer) → AnswerFits answer → IsPiece 10 (spelled_answer answer)
+answer_piece answer fits = both (codes "answer ") (answer_said answer) (literal (codes "answer ") refl) (said_piece answer fits)
 
 -- ---- entries
 
@@ -125,40 +125,40 @@ parts_pieces version before [] are = no_pieces
 parts_pieces version before (p ∷ parts) are =
     piece_first (part_text p) (map part_text parts) (part_piece version before (part_text p) p are.0) (parts_pieces version (with_part before p) parts are.1)
 
-front_piece : WordLaws → (controller index : ℕ) → controller < 2 ^ 64 → index < 2 ^ 64 → IsPiece 10 (call_front controller index)
-front_piece laws controller index few small =
-    then_more laws (codes "call ") controller (codes " " ++ (decimal index ++ codes " ")) (literal (codes "call ") refl) few
-    (then_more laws (codes " ") index (codes " ") (literal (codes " ") refl) small (literal (codes " ") refl))
+front_piece : (controller index : ℕ) → controller < 2 ^ 64 → index < 2 ^ 64 → IsPiece 10 (call_front controller index)
+front_piece controller index few small =
+    then_more (codes "call ") controller (codes " " ++ (decimal index ++ codes " ")) (literal (codes "call ") refl) few
+    (then_more (codes " ") index (codes " ") (literal (codes " ") refl) small (literal (codes " ") refl))
 
-call_pieces : WordLaws → ReadsPartsBack → (version : Version) (controller index : ℕ) (call : CallValue) → controller < 2 ^ 64 → index < 2 ^ 64 → FitsCall version call → Pieces (call_lines controller index call)
-call_pieces laws blocks version controller index ShowCall few small fits =
-    one (call_front controller index ++ codes "show") (both (call_front controller index) (codes "show") (front_piece laws controller index few small) (literal (codes "show") refl))
-call_pieces laws blocks version controller index (CommitCall commit) few small fits =
+call_pieces : (version : Version) (controller index : ℕ) (call : CallValue) → controller < 2 ^ 64 → index < 2 ^ 64 → FitsCall version call → Pieces (call_lines controller index call)
+call_pieces version controller index ShowCall few small fits =
+    one (call_front controller index ++ codes "show") (both (call_front controller index) (codes "show") (front_piece controller index few small) (literal (codes "show") refl))
+call_pieces version controller index (CommitCall commit) few small fits =
     piece_first (call_front controller index ++ codes "commit") (written_commit commit ++ codes "apply" ∷ [])
-    (both (call_front controller index) (codes "commit") (front_piece laws controller index few small) (literal (codes "commit") refl))
-    (both_pieces (written_commit commit) (codes "apply" ∷ []) (parts_pieces version no_commit (parts_of commit) (blocks version commit fits.0 fits.1 fits.2).each) (one (codes "apply") (literal (codes "apply") refl)))
+    (both (call_front controller index) (codes "commit") (front_piece controller index few small) (literal (codes "commit") refl))
+    (both_pieces (written_commit commit) (codes "apply" ∷ []) (parts_pieces version no_commit (parts_of commit) (parts_read_back version commit fits.0 fits.1 fits.2).each) (one (codes "apply") (literal (codes "apply") refl)))
 
-entry_pieces : WordLaws → ReadsPartsBack → (v : LiveValue) → CanCall v → (bits : List Bool) (e : Entry) → EntryNumbersFit e → Pieces (entry_lines v bits e)
-entry_pieces laws blocks v can bits (Prepare pass pos) fits =
-    one (spelled_prepare pass pos) (then_more laws (codes "prepare ") pass (codes " at " ++ decimal pos) (literal (codes "prepare ") refl) fits.0 (with_number laws (codes " at ") pos (literal (codes " at ") refl) fits.1))
-entry_pieces laws blocks v can bits (Check pass) fits =
-    one (spelled_check pass bits) (both (check_front pass) (map bit_digit bits) (then_more laws (codes "check ") pass (codes " ") (literal (codes "check ") refl) fits (literal (codes " ") refl)) (digits_piece bits))
-entry_pieces laws blocks v can bits (Void pass) fits = one (spelled_void pass) (with_number laws (codes "void ") pass (literal (codes "void ") refl) fits)
-entry_pieces laws blocks v can bits (Aggregate tick pos) fits =
-    one (spelled_aggregate tick pos) (then_more laws (codes "aggregate ") tick (codes " at " ++ decimal pos) (literal (codes "aggregate ") refl) fits.0 (with_number laws (codes " at ") pos (literal (codes " at ") refl) fits.1))
-entry_pieces laws blocks v can bits (Call controller index answer) fits = by (call_at v controller index) refl
+entry_pieces : (v : LiveValue) → CanCall v → (bits : List Bool) (e : Entry) → EntryNumbersFit e → Pieces (entry_lines v bits e)
+entry_pieces v can bits (Prepare pass pos) fits =
+    one (spelled_prepare pass pos) (then_more (codes "prepare ") pass (codes " at " ++ decimal pos) (literal (codes "prepare ") refl) fits.0 (with_number (codes " at ") pos (literal (codes " at ") refl) fits.1))
+entry_pieces v can bits (Check pass) fits =
+    one (spelled_check pass bits) (both (check_front pass) (map bit_digit bits) (then_more (codes "check ") pass (codes " ") (literal (codes "check ") refl) fits (literal (codes " ") refl)) (digits_piece bits))
+entry_pieces v can bits (Void pass) fits = one (spelled_void pass) (with_number (codes "void ") pass (literal (codes "void ") refl) fits)
+entry_pieces v can bits (Aggregate tick pos) fits =
+    one (spelled_aggregate tick pos) (then_more (codes "aggregate ") tick (codes " at " ++ decimal pos) (literal (codes "aggregate ") refl) fits.0 (with_number (codes " at ") pos (literal (codes " at ") refl) fits.1))
+entry_pieces v can bits (Call controller index answer) fits = by (call_at v controller index) refl
   where
     by : (o : Option CallValue) → call_at v controller index ≡ o → Pieces (answered_lines controller index answer o)
     by None is = no_pieces
     by (Some call) is =
-        both_pieces (call_lines controller index call) (spelled_answer answer ∷ []) (call_pieces laws blocks v.setup.version controller index call fits.0 fits.1 (can controller index call is))
-        (one (spelled_answer answer) (answer_piece laws answer fits.2))
+        both_pieces (call_lines controller index call) (spelled_answer answer ∷ []) (call_pieces v.setup.version controller index call fits.0 fits.1 (can controller index call is))
+        (one (spelled_answer answer) (answer_piece answer fits.2))
 
-entries_pieces : WordLaws → ReadsPartsBack → (v : LiveValue) → CanCall v → (r : Replayed) (es : List Entry) → AllByRecursion EntryNumbersFit es → Pieces (entries_lines v r es)
-entries_pieces laws blocks v can r [] fits = no_pieces
-entries_pieces laws blocks v can r (e ∷ es) fits =
+entries_pieces : (v : LiveValue) → CanCall v → (r : Replayed) (es : List Entry) → AllByRecursion EntryNumbersFit es → Pieces (entries_lines v r es)
+entries_pieces v can r [] fits = no_pieces
+entries_pieces v can r (e ∷ es) fits =
     let bits = take (bits_taken r.state.core e) r.bits in
-    both_pieces (entry_lines v bits e) (entries_lines v (carried v r e) es) (entry_pieces laws blocks v can bits e fits.0) (entries_pieces laws blocks v can (carried v r e) es fits.1)
+    both_pieces (entry_lines v bits e) (entries_lines v (carried v r e) es) (entry_pieces v can bits e fits.0) (entries_pieces v can (carried v r e) es fits.1)
 
 -- ---- receipts
 
@@ -166,29 +166,29 @@ entries_pieces laws blocks v can r (e ∷ es) fits =
 abbrev pub ReceiptsFit : List Target → List (List Receipt) → Type 0
 ReceiptsFit space all = AllByRecursion (λ rs. AllByRecursion (λ r. (r.page < pages_of space) × (r.tag < 2 ^ 64)) rs) all
 
-pub seen_piece : WordLaws → (space : List Target) (w : ℕ) (r : Receipt) → PlaceFits space r.page → w < 2 ^ 8 → r.tag < 2 ^ 64 → IsPiece 10 (spelled_seen space w r)
-seen_piece laws space w r fit few tag = literal (spelled_seen space w r) (line_prints (codes "seen") (seen_words space w r) (words_plain laws space w r fit few tag))
+pub seen_piece : (space : List Target) (w : ℕ) (r : Receipt) → PlaceFits space r.page → w < 2 ^ 8 → r.tag < 2 ^ 64 → IsPiece 10 (spelled_seen space w r)
+seen_piece space w r fit few tag = literal (spelled_seen space w r) (line_prints (codes "seen") (seen_words space w r) (words_plain space w r fit few tag))
 
-worker_pieces : WordLaws → (space : List Target) → PlacesFit space → (w : ℕ) (rs : List Receipt) → w < 2 ^ 8 → AllByRecursion (λ r. (r.page < pages_of space) × (r.tag < 2 ^ 64)) rs → Pieces (map (spelled_seen space w) rs)
-worker_pieces laws space fit w [] few each = no_pieces
-worker_pieces laws space fit w (r ∷ rs) few each =
-    piece_first (spelled_seen space w r) (map (spelled_seen space w) rs) (seen_piece laws space w r (fit r.page each.0.0) few each.0.1) (worker_pieces laws space fit w rs few each.1)
+worker_pieces : (space : List Target) → PlacesFit space → (w : ℕ) (rs : List Receipt) → w < 2 ^ 8 → AllByRecursion (λ r. (r.page < pages_of space) × (r.tag < 2 ^ 64)) rs → Pieces (map (spelled_seen space w) rs)
+worker_pieces space fit w [] few each = no_pieces
+worker_pieces space fit w (r ∷ rs) few each =
+    piece_first (spelled_seen space w r) (map (spelled_seen space w) rs) (seen_piece space w r (fit r.page each.0.0) few each.0.1) (worker_pieces space fit w rs few each.1)
 
-seen_pieces : WordLaws → (space : List Target) → PlacesFit space → (w : ℕ) (all : List (List Receipt)) → w + length all ≤ MAX_WORKERS → ReceiptsFit space all → Pieces (seen_lines space w all)
-seen_pieces laws space fit w [] few each = no_pieces
-seen_pieces laws space fit w (rs ∷ all) few each =
-    both_pieces (map (spelled_seen space w) rs) (seen_lines space (w + 1) all) (worker_pieces laws space fit w rs (omega (arith, few)) each.0)
-    (seen_pieces laws space fit (w + 1) all (omega (arith, few)) each.1)
+seen_pieces : (space : List Target) → PlacesFit space → (w : ℕ) (all : List (List Receipt)) → w + length all ≤ MAX_WORKERS → ReceiptsFit space all → Pieces (seen_lines space w all)
+seen_pieces space fit w [] few each = no_pieces
+seen_pieces space fit w (rs ∷ all) few each =
+    both_pieces (map (spelled_seen space w) rs) (seen_lines space (w + 1) all) (worker_pieces space fit w rs (omega (arith, few)) each.0)
+    (seen_pieces space fit (w + 1) all (omega (arith, few)) each.1)
 
 -- ---- all lines after the head, up to `settled`
 
 -- for a journal and receipts within their types
-pub body_pieces : WordLaws → ReadsPartsBack → (v : LiveValue) (j : JournalValue) (all : List (List Receipt)) → PlacesFit v.setup.space → CanCall v → length all ≤ MAX_WORKERS
+pub body_pieces : (v : LiveValue) (j : JournalValue) (all : List (List Receipt)) → PlacesFit v.setup.space → CanCall v → length all ≤ MAX_WORKERS
     → AllByRecursion EntryNumbersFit j.entries → ReceiptsFit v.setup.space all
     → Pieces (journal_lines v j ++ codes "receipts" ∷ (seen_lines v.setup.space 0 all ++ codes "settled" ∷ []))
-body_pieces laws blocks v j all places can few numbers receipts =
+body_pieces v j all places can few numbers receipts =
     let seen = seen_lines v.setup.space 0 all in
     both_pieces (journal_lines v j) (codes "receipts" ∷ (seen ++ codes "settled" ∷ []))
-    (entries_pieces laws blocks v can (begun v j.bits) j.entries numbers)
+    (entries_pieces v can (begun v j.bits) j.entries numbers)
     (piece_first (codes "receipts") (seen ++ codes "settled" ∷ []) (literal (codes "receipts") refl)
-    (both_pieces seen (codes "settled" ∷ []) (seen_pieces laws v.setup.space places 0 all (omega (arith, few)) receipts) (one (codes "settled") (literal (codes "settled") refl))))
+    (both_pieces seen (codes "settled" ∷ []) (seen_pieces v.setup.space places 0 all (omega (arith, few)) receipts) (one (codes "settled") (literal (codes "settled") refl))))

@@ -12,6 +12,7 @@ use Rattle.damon_types.specs.declared.scheme.Version.{Version}
 use Rattle.line_text.specs.Address.{hex_digit, spelled_address}
 use Rattle.line_text.specs.Number.{number}
 use Rattle.line_text.specs.Parts.{IsPiece, is_plain, is_printable, is_word, joined, parts}
+use Rattle.line_text.proofs.Lemmas.{digits-decimal, digits-hex, number-decimal, parts-joined}
 use Rattle.live_commit.specs.Commit.{CommitValue}
 use Rattle.script_lines.specs.declared.kind.ScriptKind.{ScriptKind}
 use Rattle.script_lines.specs.declared.kind.ScriptKind.TheVariants.{Form, Word}
@@ -20,7 +21,6 @@ use Rattle.script_lines.specs.declared.part.Part.TheVariants.{Attrs, Range, Slot
 use Rattle.script_lines.specs.Body.{change_line, drop_line, part_line, wants_attrs, wants_cost, wants_metric, wants_slot}
 use Rattle.script_lines.specs.Fields.{attrs_in, cost_in, range_in}
 use Rattle.script_lines.specs.Keys.{scheme_in}
-use Rattle.script_lines.specs.Laws.{WordLaws}
 use Rattle.script_lines.specs.Refusal.{◌>>=◌}
 use Rattle.script_lines.specs.Words.{arguments, begins_with, number_8, number_32, one_word, same_word}
 use Rattle.journal_text.proofs.Common.{both_are, bind-Ok, either_way}
@@ -62,21 +62,21 @@ decimal_some most n [] read = absurd cc
 decimal_some most n (c ∷ cs) read = refl
 
 -- a number of 64 bits is a plain word
-pub decimal_word : (laws : WordLaws) (n : ℕ) → n < 2 ^ 64 → is_plain_word (decimal n) ≡ true
-decimal_word laws n small = both_true
-    (decimal_some (2 ^ 64 - 1) n (decimal n) (laws.spelled_numbers (2 ^ 64 - 1) n (omega arith) (omega arith)))
+pub decimal_word : (n : ℕ) → n < 2 ^ 64 → is_plain_word (decimal n) ≡ true
+decimal_word n small = both_true
+    (decimal_some (2 ^ 64 - 1) n (decimal n) (number-decimal (2 ^ 64 - 1) n (omega arith) (omega arith)))
     (list_all-from_AllPass is_word_byte (decimal n)
-    (All-weaker (λ c. IsTrue (is_ascii_digit c)) (λ c. is_word_byte c ≡ true) (λ c digit. grind (arith, nat_tests)) (decimal n) (laws.digits n small)))
+    (All-weaker (λ c. IsTrue (is_ascii_digit c)) (λ c. is_word_byte c ≡ true) (λ c digit. grind (arith, nat_tests)) (decimal n) (digits-decimal n small)))
 
 -- a hexadecimal digit is a byte of a word
 hex_byte : (c : ℕ) → IsSome (hex_digit c) → is_word_byte c ≡ true
 hex_byte c some = grind (arith, nat_tests)
 
 -- an address is a plain word
-pub address_word : (laws : WordLaws) (n : ℕ) → n < 2 ^ 64 → is_plain_word (spelled_address n) ≡ true
-address_word laws n small =
+pub address_word : (n : ℕ) → n < 2 ^ 64 → is_plain_word (spelled_address n) ≡ true
+address_word n small =
     list_all-from_AllPass is_word_byte (digits 16 false n)
-    (All-weaker (λ c. IsSome (hex_digit c)) (λ c. is_word_byte c ≡ true) hex_byte (digits 16 false n) (laws.hex_digits n small))
+    (All-weaker (λ c. IsSome (hex_digit c)) (λ c. is_word_byte c ≡ true) hex_byte (digits 16 false n) (digits-hex n small))
 
 -- the bytes of a plain word print
 word_prints : (word : List ℕ) → is_plain_word word ≡ true → list_all is_printable word ≡ true
@@ -84,14 +84,14 @@ word_prints word plain =
     weaker is_word_byte is_printable (λ c passes. (both_are (is_printable c) (not (c == 32)) passes).0) word (both_are (is_word word) (list_all is_word_byte word) plain).1
 
 -- the digits of a number have no LF
-pub number_piece : WordLaws → (n : ℕ) → n < 2 ^ 64 → IsPiece 10 (decimal n)
-number_piece laws n small = literal (decimal n) (word_prints (decimal n) (decimal_word laws n small))
+pub number_piece : (n : ℕ) → n < 2 ^ 64 → IsPiece 10 (decimal n)
+number_piece n small = literal (decimal n) (word_prints (decimal n) (decimal_word n small))
 
 -- ---- lines of plain words
 
 -- plain words with a space between each two are taken apart again
-parts-spaced : (laws : WordLaws) (word : List ℕ) (words : List (List ℕ)) → list_all is_plain_word (word ∷ words) ≡ true → parts 32 (joined 32 (word ∷ words)) ≡ word ∷ words
-parts-spaced laws word words plain = laws.pieces 32 word words
+parts-spaced : (word : List ℕ) (words : List (List ℕ)) → list_all is_plain_word (word ∷ words) ≡ true → parts 32 (joined 32 (word ∷ words)) ≡ word ∷ words
+parts-spaced word words plain = parts-joined 32 word words
     (All-weaker (λ w. is_plain_word w ≡ true) (IsPiece 32) (λ w passes. lacks is_word_byte 32 refl w (both_are (is_word w) (list_all is_word_byte w) passes).1) (word ∷ words)
     (AllPass-from_list_all is_plain_word (word ∷ words) plain))
 
@@ -103,18 +103,18 @@ line_prints word (next ∷ words) plain =
     both_pass is_printable word (32 ∷ joined 32 (next ∷ words)) (word_prints word both.0) (line_prints next words both.1)
 
 -- a line of plain words is well formed
-is_plain-spaced : (laws : WordLaws) (word : List ℕ) (words : List (List ℕ)) → list_all is_plain_word (word ∷ words) ≡ true → is_plain (joined 32 (word ∷ words)) ≡ true
-is_plain-spaced laws word words plain = both_true (line_prints word words plain)
-    (ap (list_all is_word) (parts-spaced laws word words plain)
+is_plain-spaced : (word : List ℕ) (words : List (List ℕ)) → list_all is_plain_word (word ∷ words) ≡ true → is_plain (joined 32 (word ∷ words)) ≡ true
+is_plain-spaced word words plain = both_true (line_prints word words plain)
+    (ap (list_all is_word) (parts-spaced word words plain)
     ∙ weaker is_plain_word is_word (λ w passes. (both_are (is_word w) (list_all is_word_byte w) passes).0) (word ∷ words) plain)
 
 -- the arguments of a line of plain words are the words after the first
-pub arguments-spaced : (laws : WordLaws) (word : List ℕ) (words : List (List ℕ)) → same_word word word ≡ true → list_all is_plain_word (word ∷ words) ≡ true
+pub arguments-spaced : (word : List ℕ) (words : List (List ℕ)) → same_word word word ≡ true → list_all is_plain_word (word ∷ words) ≡ true
     → arguments word (joined 32 (word ∷ words)) ≡ Ok words
-arguments-spaced laws word words same plain =
-    let apart = parts-spaced laws word words plain in
+arguments-spaced word words same plain =
+    let apart = parts-spaced word words plain in
     let begins : begins_with word (joined 32 (word ∷ words)) ≡ true = rw apart same in
-    rw (begins, is_plain-spaced laws word words plain, apart) refl
+    rw (begins, is_plain-spaced word words plain, apart) refl
 
 -- ---- a line that is accepted is well formed
 

@@ -14,7 +14,7 @@ use Rattle.journal_text.specs.Rules.{ReadsLawfulBack}
 use Rattle.run_journal.specs.Limits.{TagsFit}
 use Rattle.journal_text.proofs.Common.{both_are, if_some}
 use Rattle.journal_text.proofs.Pieces.{ReceiptsFit, body_pieces}
-use Rattle.journal_text.proofs.SecondLaw.{SecondLaws, second_law}
+use Rattle.journal_text.proofs.SecondLaw.{second_law}
 use Rattle.journal_text.proofs.SeenRead.{PlacesFit}
 
 -- the page of the place of each page is that page
@@ -58,15 +58,15 @@ receipts_fit space (rs ∷ all) within tags =
     (worker_fits (pages_of space) rs apart.0 tags.0, receipts_fit space all apart.1 tags.1)
 
 -- the text of each lawful journal that a text can spell is read back
-pub lawful_read_back : SecondLaws → ArePagesNumbered → ReadsLawfulBack
-lawful_read_back laws numbered v j all lawful can =
+pub journals_read_back : ArePagesNumbered → ReadsLawfulBack
+journals_read_back numbered v j all lawful can =
     let places = places_fit numbered v.setup.space can.setup.space in
-    second_law laws v j all lawful (record {
+    second_law v j all lawful (record {
       setup = can.setup;
       places = places;
       can = can.calls;
       turn = can.rules.turn;
       workers = can.rules.workers;
       tags = can.tags;
-      lines = body_pieces laws.words laws.entries.block v j all places can.calls can.rules.workers can.numbers (receipts_fit v.setup.space all lawful.receipts.within can.tags);
+      lines = body_pieces v j all places can.calls can.rules.workers can.numbers (receipts_fit v.setup.space all lawful.receipts.within can.tags);
     })

@@ -10,19 +10,19 @@ use Rattle.std.specs.List.{AllByRecursion, Contains, list_all, list_any}
 use Rattle.std.specs.Cmp.Derive.{both_true}
 use Rattle.damon_types.specs.Space.{pages_of}
 use Rattle.damon_types.proofs.Lemmas.{all_parts}
-use Rattle.line_text.specs.Laws.{PutsPartsTogether, TakesApartPieces}
 use Rattle.line_text.specs.Parts.{parts}
+use Rattle.line_text.proofs.Lemmas.{parts_some}
 use Rattle.live_commit.specs.declared.phase.Phase.TheVariants.{Idle}
 use Rattle.page_words.specs.declared.view.Entry.{Entry as Step}
 use Rattle.page_words.specs.declared.view.Entry.TheVariants.{Clear, Load, Gathered}
 use Rattle.page_words.specs.declared.view.Touch.{Touch}
 use Rattle.page_words.specs.Clears.{IsOdd, clear_passes_of, pass_of}
 use Rattle.page_words.specs.Views.{touch}
-use Rattle.script_lines.specs.Laws.{WordLaws}
 use Rattle.script_lines.specs.Lines.{lines_text}
 use Rattle.script_lines.specs.Words.{same_word}
+use Rattle.script_lines.proofs.Lemmas.{lines_text-append, parts_before}
 use Rattle.damon_control.specs.declared.live.TheConstants.{MAX_WORKERS}
-use Rattle.damon_control.specs.JournalHead.{ReadsHeadsBack, head_lines}
+use Rattle.damon_control.specs.JournalHead.{head_lines}
 use Rattle.damon_control.specs.Live.{LiveValue}
 use Rattle.damon_control.specs.Script.{AtHeader}
 use Rattle.damon_control.specs.WriteBack.{IsWritable}
@@ -43,9 +43,8 @@ use Rattle.journal_text.specs.SeenLine.{after_receipt, has_receipt, is_receipt, 
 use Rattle.run_journal.specs.Steps.{steps}
 use Rattle.journal_text.specs.Text.{journal_lines, journal_text, last_text, seen_lines, settled_lines}
 use Rattle.journal_text.proofs.AllRead.{journal_read, no_calls}
-use Rattle.journal_text.proofs.Appended.{lines_text-append}
-use Rattle.journal_text.proofs.Common.{Pieces, both_pieces, or_first, or_second, parts-some, parts_before, then_some}
-use Rattle.journal_text.proofs.EntriesRead.{EntryLaws, so_far}
+use Rattle.journal_text.proofs.Common.{Pieces, both_pieces, or_first, or_second, then_some}
+use Rattle.journal_text.proofs.EntriesRead.{so_far}
 use Rattle.journal_text.proofs.HeadRead.{head_read}
 use Rattle.journal_text.proofs.Leading.{found, leads_by, leads_to, said_after, said_all}
 use Rattle.journal_text.proofs.SeenRead.{IsRead, Pads, PlacesFit, workers_seen}
@@ -133,14 +132,6 @@ workers_read v j all are (rs ∷ some) among within tags =
 
 -- ---- where all lines lead
 
--- the laws of the crates below
-pub record SecondLaws : Type 0 where
-  pub entries : EntryLaws
-  pub words : WordLaws
-  pub heads : ReadsHeadsBack
-  pub together : PutsPartsTogether
-  pub apart : TakesApartPieces
-
 -- the lines after the head, up to `settled`
 abbrev pub body_lines : LiveValue → JournalValue → List (List Receipt) → List (List ℕ)
 body_lines v j all = journal_lines v j ++ codes "receipts" ∷ (seen_lines v.setup.space 0 all ++ codes "settled" ∷ [])
@@ -169,14 +160,14 @@ record BodyLeads (v : LiveValue) (j : JournalValue) (all : List (List Receipt)) 
       ≡ Some (AtLast (record { live = later; journal = j; receipts = behind }) (parts 10 (last_text (replay later j).state)))
 
 -- those of a lawful journal that can be read do
-body_leads : SecondLaws → (v : LiveValue) (j : JournalValue) (all : List (List Receipt)) → IsLawful v j all → CanBeRead v j all → BodyLeads v j all
-body_leads laws v j all lawful can =
-    let entries = journal_read laws.entries v can.can j lawful.journal can.turn in
+body_leads : (v : LiveValue) (j : JournalValue) (all : List (List Receipt)) → IsLawful v j all → CanBeRead v j all → BodyLeads v j all
+body_leads v j all lawful can =
+    let entries = journal_read v can.can j lawful.journal can.turn in
     let w = so_far v entries.later in
     let are : AreReceipts (pages_of v.setup.space) (steps w j) all = subst (λ done. AreReceipts (pages_of v.setup.space) done all) (sym entries.steps_are) lawful.receipts in
     let read = workers_read w j all are all (λ t has. has) are.within can.tags in
     let none : List (List Receipt) = [] in
-    let seen = workers_seen laws.words w j can.places none none all 0 refl (omega (arith, can.workers)) (0, refl) are.rise read in
+    let seen = workers_seen w j can.places none none all 0 refl (omega (arith, can.workers)) (0, refl) are.rise read in
     let idle : (replay w j).state.core.phase ≡ Idle = ap (λ s. s.core.phase) entries.state ∙ lawful.idle in
     let same : all_of seen.behind ≡ all_of all = sym (padded_all seen.pads.0 seen.behind) ∙ ap all_of seen.pads.1 in
     let hits : HaveReceipts (steps w j) seen.behind = λ page word has odd. subst (λ rs. Contains (touches_of rs) (touch page (pass_of word))) (sym same) (are.hits page word has odd) in
@@ -213,9 +204,9 @@ leads-both place next (line ∷ a) b lead =
     leads_by place reached.0 line (a ++ b) reached.1 ∙ leads-both reached.0 next a b reached.2
 
 -- the parts of the text are the lines of the head as it was written, the other lines and the parts of the last ones
-text_parts : SecondLaws → (v : LiveValue) (j : JournalValue) (all : List (List Receipt)) (front : List (List ℕ)) → lines_text front ≡ lines_text (head_lines v.seed v.setup) → Pieces front → Pieces (body_lines v j all)
+text_parts : (v : LiveValue) (j : JournalValue) (all : List (List Receipt)) (front : List (List ℕ)) → lines_text front ≡ lines_text (head_lines v.seed v.setup) → Pieces front → Pieces (body_lines v j all)
     → parts 10 (journal_text v j all) ≡ (front ++ body_lines v j all) ++ parts 10 (last_text (replay v j).state)
-text_parts laws v j all front same first body =
+text_parts v j all front same first body =
     let lines = body_lines v j all in
     let text = last_text (replay v j).state in
     let whole : lines_text (settled_lines v j all) ≡ lines_text (front ++ lines) =
@@ -223,16 +214,16 @@ text_parts laws v j all front same first body =
     ∙ ap (λ t. t ++ lines_text lines) (sym same)
     ∙ sym (lines_text-append front lines)
     in
-    ap (λ t. parts 10 (t ++ text)) whole ∙ parts_before laws.apart laws.together (front ++ lines) text (both_pieces front lines first body)
+    ap (λ t. parts 10 (t ++ text)) whole ∙ parts_before (front ++ lines) text (both_pieces front lines first body)
 
 -- the text of a lawful journal is read as that journal
-pub second_law : SecondLaws → (v : LiveValue) (j : JournalValue) (all : List (List Receipt)) → IsLawful v j all → CanBeRead v j all → IsReadBack v j all
-second_law laws v j all lawful can =
-    let head = head_read laws.heads laws.together v.seed v.setup can.setup in
-    let body = body_leads laws v j all lawful can in
+pub second_law : (v : LiveValue) (j : JournalValue) (all : List (List Receipt)) → IsLawful v j all → CanBeRead v j all → IsReadBack v j all
+second_law v j all lawful can =
+    let head = head_read v.seed v.setup can.setup in
+    let body = body_leads v j all lawful can in
     let said : JournalRead = record { live = body.later; journal = j; receipts = body.behind } in
     let wanted = parts 10 (last_text (replay body.later j).state) in
-    let some = parts-some 10 (last_text (replay body.later j).state) in
+    let some = parts_some 10 (last_text (replay body.later j).state) in
     let lines = body_lines v j all in
     let lead : leads_to (InHead AtHeader) (head.lines ++ lines) ≡ Some (AtLast said wanted) =
     leads-both (InHead AtHeader) (InEntries (so_far v no_calls) nothing_said) head.lines lines head.lead ∙ body.leads
@@ -241,7 +232,7 @@ second_law laws v j all lawful can =
     record {
       said = said;
       read =
-          ap (said_from 1 (InHead AtHeader)) (text_parts laws v j all head.lines head.text head.pieces can.lines ∙ ap (λ t. (head.lines ++ lines) ++ parts 10 t) (sym body.last))
+          ap (said_from 1 (InHead AtHeader)) (text_parts v j all head.lines head.text head.pieces can.lines ∙ ap (λ t. (head.lines ++ lines) ++ parts 10 t) (sym body.last))
           ∙ reach.1
           ∙ said_all reach.0 said wanted some;
       seed = body.seed;

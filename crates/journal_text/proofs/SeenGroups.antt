@@ -4,7 +4,7 @@ use Rattle.std.specs.Prelude.{slice_get}
 use Rattle.std.proofs.lemmas.List.{drop-drop, map-append, take-append-drop}
 use Rattle.script_lines.specs.Lines.{lines_text}
 use Rattle.run_journal.specs.declared.entry.Receipt.{Receipt}
-use Rattle.journal_text.proofs.Appended.{drop-at, lines_text-append}
+use Rattle.script_lines.proofs.Lemmas.{drop-at, lines_text-append}
 
 -- one more line in front of those of a group
 pub group_more : (f : Receipt → List ℕ) (rs : List Receipt) (r : Receipt) (from left count : ℕ) → 1 ≤ left → left ≤ count → slice_get rs (from + (left - 1)) ≡ Some r

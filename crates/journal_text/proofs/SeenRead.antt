@@ -10,9 +10,9 @@ use Rattle.std.specs.Option.{ok_or}
 use Rattle.damon_types.specs.declared.space.Target.{Target}
 use Rattle.damon_types.specs.Space.{pages_of, place_of}
 use Rattle.line_text.specs.Address.{spelled_address}
+use Rattle.line_text.proofs.Lemmas.{address-spelled_address, number-decimal}
 use Rattle.page_words.specs.Views.{TagsRise, touch}
 use Rattle.script_lines.specs.declared.kind.ScriptKind.TheVariants.{Number}
-use Rattle.script_lines.specs.Laws.{WordLaws}
 use Rattle.script_lines.specs.Refusal.{◌>>=◌}
 use Rattle.script_lines.specs.Words.{byte_address, number_8, number_32, number_64, same_word}
 use Rattle.damon_control.specs.declared.live.TheConstants.{MAX_WORKERS}
@@ -43,32 +43,32 @@ abbrev pub seen_words : List Target → ℕ → Receipt → List (List ℕ)
 seen_words space w r = decimal w ∷ decimal (place_of space r.page).target ∷ spelled_address (place_of space r.page).addr ∷ decimal r.tag ∷ []
 
 -- they are plain words
-pub words_plain : WordLaws → (space : List Target) (w : ℕ) (r : Receipt) → PlaceFits space r.page → w < 2 ^ 8 → r.tag < 2 ^ 64 → list_all is_plain_word (codes "seen" ∷ seen_words space w r) ≡ true
-words_plain laws space w r fit worker tag =
+pub words_plain : (space : List Target) (w : ℕ) (r : Receipt) → PlaceFits space r.page → w < 2 ^ 8 → r.tag < 2 ^ 64 → list_all is_plain_word (codes "seen" ∷ seen_words space w r) ≡ true
+words_plain space w r fit worker tag =
     let target : (place_of space r.page).target < 2 ^ 64 = omega (arith, fit.target) in
-    both_true (decimal_word laws w (omega (arith, worker)))
-    (both_true (decimal_word laws (place_of space r.page).target target)
-    (both_true (address_word laws (place_of space r.page).addr (fit.addr))
-    (both_true (decimal_word laws r.tag tag) refl)))
+    both_true (decimal_word w (omega (arith, worker)))
+    (both_true (decimal_word (place_of space r.page).target target)
+    (both_true (address_word (place_of space r.page).addr (fit.addr))
+    (both_true (decimal_word r.tag tag) refl)))
 
 -- and are read as the numbers that they spell
-fields_back : WordLaws → (space : List Target) (w : ℕ) (r : Receipt) → PlaceFits space r.page → w < 2 ^ 8 → r.tag < 2 ^ 64
+fields_back : (space : List Target) (w : ℕ) (r : Receipt) → PlaceFits space r.page → w < 2 ^ 8 → r.tag < 2 ^ 64
     → seen_fields (seen_words space w r) ≡ Ok (w, ((place_of space r.page).target, ((place_of space r.page).addr, r.tag)))
-fields_back laws space w r fit worker tag =
+fields_back space w r fit worker tag =
     let target = (place_of space r.page).target in
     let addr = (place_of space r.page).addr in
-    then-Ok (number_8 (decimal w)) _ w _ (ap (λ o. ok_or o Number) (laws.spelled_numbers (2 ^ 8 - 1) w (omega (arith, worker)) (omega arith)))
-    (then-Ok (number_32 (decimal target)) _ target _ (ap (λ o. ok_or o Number) (laws.spelled_numbers (2 ^ 32 - 1) target (omega (arith, fit.target)) (omega arith)))
-    (then-Ok (byte_address (spelled_address addr)) _ addr _ (ap (λ o. ok_or o Number) (laws.spelled_addresses addr (fit.addr)))
-    (then-Ok (number_64 (decimal r.tag)) _ r.tag _ (ap (λ o. ok_or o Number) (laws.spelled_numbers (2 ^ 64 - 1) r.tag (omega (arith, tag)) (omega arith))) refl)))
+    then-Ok (number_8 (decimal w)) _ w _ (ap (λ o. ok_or o Number) (number-decimal (2 ^ 8 - 1) w (omega (arith, worker)) (omega arith)))
+    (then-Ok (number_32 (decimal target)) _ target _ (ap (λ o. ok_or o Number) (number-decimal (2 ^ 32 - 1) target (omega (arith, fit.target)) (omega arith)))
+    (then-Ok (byte_address (spelled_address addr)) _ addr _ (ap (λ o. ok_or o Number) (address-spelled_address addr (fit.addr)))
+    (then-Ok (number_64 (decimal r.tag)) _ r.tag _ (ap (λ o. ok_or o Number) (number-decimal (2 ^ 64 - 1) r.tag (omega (arith, tag)) (omega arith))) refl)))
 
 -- a `seen` line is read as its worker and its receipt
-pub seen_back : WordLaws → (space : List Target) (w : ℕ) (r : Receipt) → PlaceFits space r.page → w < 2 ^ 8 → r.tag < 2 ^ 64 → seen_line space (spelled_seen space w r) ≡ Some (w, r)
-seen_back laws space w r fit worker tag =
+pub seen_back : (space : List Target) (w : ℕ) (r : Receipt) → PlaceFits space r.page → w < 2 ^ 8 → r.tag < 2 ^ 64 → seen_line space (spelled_seen space w r) ≡ Some (w, r)
+seen_back space w r fit worker tag =
     let line = spelled_seen space w r in
     let only : ℕ × Receipt = (w, r) in
-    ap (λ a. option_and_then (λ (x : ℕ × Receipt). if same_word line (spelled_seen space x.0 x.1) then Some x else None) (seen_of space (a >>= seen_fields))) (arguments-spaced laws (codes "seen") (seen_words space w r) refl (words_plain laws space w r fit worker tag))
-    ∙ ap (λ f. option_and_then (λ (x : ℕ × Receipt). if same_word line (spelled_seen space x.0 x.1) then Some x else None) (seen_of space f)) (fields_back laws space w r fit worker tag)
+    ap (λ a. option_and_then (λ (x : ℕ × Receipt). if same_word line (spelled_seen space x.0 x.1) then Some x else None) (seen_of space (a >>= seen_fields))) (arguments-spaced (codes "seen") (seen_words space w r) refl (words_plain space w r fit worker tag))
+    ∙ ap (λ f. option_and_then (λ (x : ℕ × Receipt). if same_word line (spelled_seen space x.0 x.1) then Some x else None) (seen_of space f)) (fields_back space w r fit worker tag)
     ∙ ap (λ o. option_and_then (λ (x : ℕ × Receipt). if same_word line (spelled_seen space x.0 x.1) then Some x else None) (option_map (λ p. (w, record { page = p; tag = r.tag })) o)) (fit.numbered)
     ∙ ap (λ t. if t then Some only else None) (same_line line)
 
@@ -170,12 +170,12 @@ pub record SeenTo (v : LiveValue) (j : JournalValue) (before full : List (List R
   pub leads : (lines : List (List ℕ)) → leads_to (InReceipts v j before) (seen ++ lines) ≡ leads_to (InReceipts v j behind) lines
 
 -- the line of a receipt that can be read leads on
-receipt_leads : WordLaws → (v : LiveValue) (j : JournalValue) → PlacesFit v.setup.space → (before front : List (List Receipt)) (rs : List Receipt) (r : Receipt) (more : List Receipt) → length front < MAX_WORKERS
+receipt_leads : (v : LiveValue) (j : JournalValue) → PlacesFit v.setup.space → (before front : List (List Receipt)) (rs : List Receipt) (r : Receipt) (more : List Receipt) → length front < MAX_WORKERS
     → MoreSeen before front rs r → TagsRise (touches_of (rs ++ r ∷ more)) → IsRead v.setup.space v j r
     → after_receipt v j before (spelled_seen v.setup.space (length front) r) ≡ Some (InReceipts v j (with_receipt before (length front) r))
-receipt_leads laws v j fit before front rs r more few next rise read =
+receipt_leads v j fit before front rs r more few next rise read =
     let w = length front in
-    let back = seen_back laws v.setup.space w r (fit r.page read.page) (omega (arith, few)) read.tag in
+    let back = seen_back v.setup.space w r (fit r.page read.page) (omega (arith, few)) read.tag in
     let one : nat_le (length before) (w + 1) ≡ true = grind (arith, nat_tests, next.few) in
     let two : nat_lt w MAX_WORKERS ≡ true = grind (arith, nat_tests, few) in
     let risen : is_risen (receipts_so_far before w) r ≡ true = ap (λ qs. is_risen qs r) next.those ∙ risen_back rs r more rise in
@@ -184,34 +184,34 @@ receipt_leads laws v j fit before front rs r more few next rise read =
     ∙ found (may_be_seen (steps v j) before w r) (InReceipts v j (with_receipt before w r)) may
 
 -- the lines of one worker
-worker_seen : WordLaws → (v : LiveValue) (j : JournalValue) → PlacesFit v.setup.space → (before front : List (List Receipt)) (rs more : List Receipt) → length front < MAX_WORKERS
+worker_seen : (v : LiveValue) (j : JournalValue) → PlacesFit v.setup.space → (before front : List (List Receipt)) (rs more : List Receipt) → length front < MAX_WORKERS
     → Pads before (front ++ rs ∷ []) → TagsRise (touches_of (rs ++ more)) → AllByRecursion (IsRead v.setup.space v j) more
     → SeenTo v j before (front ++ (rs ++ more) ∷ []) (map (spelled_seen v.setup.space (length front)) more)
-worker_seen laws v j fit before front rs [] few pads rise each = record { behind = before; pads = subst (λ l. Pads before (front ++ l ∷ [])) (sym (append-nil rs)) pads; leads = λ lines. refl }
-worker_seen laws v j fit before front rs (r ∷ more) few pads rise each =
+worker_seen v j fit before front rs [] few pads rise each = record { behind = before; pads = subst (λ l. Pads before (front ++ l ∷ [])) (sym (append-nil rs)) pads; leads = λ lines. refl }
+worker_seen v j fit before front rs (r ∷ more) few pads rise each =
     let w = length front in
     let next = more_seen before front rs r pads in
     let group = append_assoc rs (r ∷ []) more in
     let behind = with_receipt before w r in
-    let rest = worker_seen laws v j fit behind front (rs ++ r ∷ []) more few (zero, append-nil behind ∙ next.grown) (subst (λ l. TagsRise (touches_of l)) (sym group) rise) each.1 in
+    let rest = worker_seen v j fit behind front (rs ++ r ∷ []) more few (zero, append-nil behind ∙ next.grown) (subst (λ l. TagsRise (touches_of l)) (sym group) rise) each.1 in
     record {
       behind = rest.behind;
       pads = subst (λ l. Pads rest.behind (front ++ l ∷ [])) group rest.pads;
       leads = λ lines.
           leads_by (InReceipts v j before) (InReceipts v j behind) (spelled_seen v.setup.space w r) (map (spelled_seen v.setup.space w) more ++ lines)
-          (receipt_leads laws v j fit before front rs r more few next rise each.0)
+          (receipt_leads v j fit before front rs r more few next rise each.0)
           ∙ rest.leads lines;
     }
 
 -- and those of all
-pub workers_seen : WordLaws → (v : LiveValue) (j : JournalValue) → PlacesFit v.setup.space → (before front rest : List (List Receipt)) (w : ℕ) → length front ≡ w → w + length rest ≤ MAX_WORKERS
+pub workers_seen : (v : LiveValue) (j : JournalValue) → PlacesFit v.setup.space → (before front rest : List (List Receipt)) (w : ℕ) → length front ≡ w → w + length rest ≤ MAX_WORKERS
     → Pads before front → AllByRecursion (λ rs. TagsRise (touches_of rs)) rest → AllByRecursion (λ rs. AllByRecursion (IsRead v.setup.space v j) rs) rest
     → SeenTo v j before (front ++ rest) (seen_lines v.setup.space w rest)
-workers_seen laws v j fit before front [] w count few pads rise each = record { behind = before; pads = subst (Pads before) (sym (append-nil front)) pads; leads = λ lines. refl }
-workers_seen laws v j fit before front (rs ∷ rest) w count few pads rise each =
+workers_seen v j fit before front [] w count few pads rise each = record { behind = before; pads = subst (Pads before) (sym (append-nil front)) pads; leads = λ lines. refl }
+workers_seen v j fit before front (rs ∷ rest) w count few pads rise each =
     let here : Pads before (front ++ [] ∷ []) = (suc pads.0, pad_more pads.0 before ∙ ap (λ l. l ++ [] ∷ []) pads.1) in
-    let own = worker_seen laws v j fit before front [] rs (omega (arith, count, few)) here rise.0 each.0 in
-    let next = workers_seen laws v j fit own.behind (front ++ rs ∷ []) rest (w + 1) (omega (arith, length-append front (rs ∷ []), count)) (omega (arith, few)) own.pads rise.1 each.1 in
+    let own = worker_seen v j fit before front [] rs (omega (arith, count, few)) here rise.0 each.0 in
+    let next = workers_seen v j fit own.behind (front ++ rs ∷ []) rest (w + 1) (omega (arith, length-append front (rs ∷ []), count)) (omega (arith, few)) own.pads rise.1 each.1 in
     let group = append_assoc front (rs ∷ []) rest in
     record {
       behind = next.behind;

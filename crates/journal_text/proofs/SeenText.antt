@@ -7,7 +7,7 @@ use Rattle.damon_types.specs.Listed.{Listed}
 use Rattle.damon_types.proofs.Lemmas.{all_parts}
 use Rattle.run_journal.specs.declared.entry.Receipt.{Receipt}
 use Rattle.run_journal.specs.Lawful.{all_of, receipts_said}
-use Rattle.journal_text.proofs.Appended.{drop-at}
+use Rattle.script_lines.proofs.Lemmas.{drop-at}
 
 -- the receipts of this worker come first, and then those of the next ones
 pub next_worker : (receipts : Listed (Listed Receipt)) (worker : ℕ) (own : Listed Receipt) → slice_get receipts.list worker ≡ Some own

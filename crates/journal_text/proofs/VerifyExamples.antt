@@ -6,9 +6,8 @@ use Rattle.rand_core.specs.Steps.{stream_of}
 use Rattle.rand_core.specs.Stream.{next_u32}
 use Rattle.damon_core.specs.Slots.{slot_count}
 use Rattle.damon_control.specs.Live.{ShowCall}
-use Rattle.journal_text.specs.Examples.{one_page, one_pass, two_receipts}
+use Rattle.journal_text.proofs.Examples.{one_page, one_pass, two_receipts}
 use Rattle.journal_text.specs.Reading.{read_journal}
-use Rattle.journal_text.specs.Text.{journal_text}
 
 -- ---- a pass with a hit
 
@@ -17,10 +16,6 @@ abbrev pub page_text : List ℕ → List ℕ → List ℕ
 page_text seen more =
     codes "damon journal 1\nseed 42\nunit 1\ncap 3\nattrs 3 3 5\ntarget 0x0 1\nrange 0 0x0 0x1000 0\nbegin\nprepare 1 at 0\ncall 0 0 show\nanswer shown tick=0 rows=1\ncheck 1 1\nreceipts\n"
     ++ (seen ++ (codes "settled\nshow tick=1 phase=idle rows=1\nrow 0 0x0-0x1000 count=1 last=0 age=0\nend ticks=1 rows=1 checks=1 hits=1\n" ++ more))
-
-pub journal_is_written : journal_text one_page one_pass two_receipts ≡ page_text (codes "seen 0 0 0x0 1\nseen 1 0 0x0 0\n") []
-unfolding digits next_u32 stream_of slot_count
-journal_is_written = refl
 
 -- its script has only what the text says: no touches, and four controllers
 pub journal_is_read : read_journal (page_text (codes "seen 0 0 0x0 1\nseen 1 0 0x0 0\n") []) ≡ Ok (record {

@@ -6,4 +6,3 @@ pub mod EntryLine
 pub mod SeenLine
 pub mod Reading
 pub mod Rules
-pub mod Examples

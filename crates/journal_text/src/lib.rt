@@ -15,7 +15,7 @@ mod text;
 mod text_parts;
 
 pub use entry_lines::write_answer;
-pub use laws::{lawful_journals_are_read, one_pass_by_hand, read_journals_are_lawful};
+pub use laws::{lawful_journals_are_read, read_journals_are_lawful};
 pub use line_parts::without_end;
 pub use seen_lines::is_seen_line;
 pub use text::journal_text;

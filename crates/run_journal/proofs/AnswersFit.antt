@@ -34,7 +34,8 @@ use Rattle.damon_control.specs.WriteBack.{FitsCommit}
 use Rattle.run_journal.specs.Phases.{IsFree}
 use Rattle.run_journal.specs.Replay.{answer_of, call_answer, call_event}
 use Rattle.run_journal.specs.Limits.{AnswerFits, FaultFits}
-use Rattle.run_journal.proofs.Sizes.{CommitLaws, IsWithin}
+use Rattle.run_journal.proofs.Sizes.{IsWithin}
+use Rattle.target_ranges.proofs.Lemmas.{checked_ranges-room}
 
 -- the first of two checks fails, or the second does
 first_or_second : {E : Type 0} (r s : Result (Unit {0}) E) (e : E) → result_and r s ≡ Err e → (r ≡ Err e) ⊎ ((r ≡ Ok tt) × (s ≡ Err e))
@@ -99,13 +100,13 @@ fault_as-ok : {E : Type 0} (as_fault : E → CommitFault) (r : Result (Unit {0})
 fault_as-ok as_fault (Ok t) ok = refl
 fault_as-ok as_fault (Err why) ok = absurd cc
 
-ranges_few : CommitLaws → (space : List Target) (unit cap now : ℕ) (ranges : Option (List RangeSpec)) → checked_new_ranges space unit cap ranges ≡ Ok tt → now ≤ cap → ranges_after ranges now ≤ cap
-ranges_few laws space unit cap now None ok few = few
-ranges_few laws space unit cap now (Some specs) ok few = by_test (length specs == 0) ok
+ranges_few : (space : List Target) (unit cap now : ℕ) (ranges : Option (List RangeSpec)) → checked_new_ranges space unit cap ranges ≡ Ok tt → now ≤ cap → ranges_after ranges now ≤ cap
+ranges_few space unit cap now None ok few = few
+ranges_few space unit cap now (Some specs) ok few = by_test (length specs == 0) ok
   where
     by_test : (b : Bool) → (if b then Err NoRange else fault_as (λ (f : RangeFault). BadRange f.index f.why) (checked_ranges space unit cap specs)) ≡ Ok tt → length specs ≤ cap
     by_test true ok = absurd cc
-    by_test false ok = laws.room space unit cap specs (fault_as-ok (λ (f : RangeFault). BadRange f.index f.why) (checked_ranges space unit cap specs) ok)
+    by_test false ok = checked_ranges-room space unit cap specs (fault_as-ok (λ (f : RangeFault). BadRange f.index f.why) (checked_ranges space unit cap specs) ok)
 
 number_refused : (ranges max : ℕ) (fault : CommitFault) → ranges < 2 ^ 64 → max < 2 ^ 64 → checked_number ranges max ≡ Err fault → FaultFits fault
 number_refused ranges max fault few fits is = by_test (nat_lt max ranges) is
@@ -151,8 +152,8 @@ cost_refused Two (Some part) fault fits is = by_test (nat_le part.slot 15) is
     by_test false is = subst FaultFits (same_fault (BadCost part.slot) fault is) fits.0
 
 -- a commit that is refused
-refused_fits : CommitLaws → (cap : ℕ) (parts : CommitValue) (c : Core) (fault : CommitFault) → cap ≤ 4096 → IsWithin cap c → IsFree c.phase → FitsCommit parts → check_of parts c ≡ Err fault → FaultFits fault
-refused_fits laws cap parts c fault small within free fits is =
+refused_fits : (cap : ℕ) (parts : CommitValue) (c : Core) (fault : CommitFault) → cap ≤ 4096 → IsWithin cap c → IsFree c.phase → FitsCommit parts → check_of parts c ≡ Err fault → FaultFits fault
+refused_fits cap parts c fault small within free fits is =
     let most : c.regions.cap ≤ 4096 = omega (arith, within.0, small) in
     let ranges = checked_new_ranges c.space c.regions.unit c.regions.cap parts.ranges in
     let number = checked_number (ranges_after parts.ranges (length c.regions.ranges)) (max_after parts.attrs c.attrs.max) in
@@ -166,7 +167,7 @@ refused_fits laws cap parts c fault small within free fits is =
     (λ (first : attrs ≡ Err fault). attrs_refused c.regions.cap parts.attrs fault most fits.attrs_fit first) (λ (later : (attrs ≡ Ok tt) × (result_and slot cost ≡ Err fault)). after_slot later.1)
     (first_or_second attrs (result_and slot cost) fault e) in
     let after_number : ranges ≡ Ok tt → result_and number (result_and attrs (result_and slot cost)) ≡ Err fault → FaultFits fault = λ ok e. (
-    let few : ranges_after parts.ranges (length c.regions.ranges) ≤ c.regions.cap = ranges_few laws c.space c.regions.unit c.regions.cap (length c.regions.ranges) parts.ranges ok (omega (arith, within.0, within.2)) in
+    let few : ranges_after parts.ranges (length c.regions.ranges) ≤ c.regions.cap = ranges_few c.space c.regions.unit c.regions.cap (length c.regions.ranges) parts.ranges ok (omega (arith, within.0, within.2)) in
     let max : max_after parts.attrs c.attrs.max < 2 ^ 64 = max_fits parts.attrs c.attrs.max fits.attrs_fit (omega (arith, within.1, small)) in
     ⊎_elim
     (λ (first : number ≡ Err fault). number_refused (ranges_after parts.ranges (length c.regions.ranges)) (max_after parts.attrs c.attrs.max) fault (omega (arith, few, most)) max first)
@@ -194,9 +195,9 @@ core_of (Ok t) parts s = refl
 core_of (Err fault) parts s = refl
 
 -- the answer of a call in a state, whose number of rows is at most 4096 before and after it
-pub answer_fits : CommitLaws → (version : Version) (cap : ℕ) (call : CallValue) (s after_call : State) → cap ≤ 4096 → IsWithin cap s.core → IsFree s.core.phase → FitsCall version call → s.core.ticks < 2 ^ 64
+pub answer_fits : (version : Version) (cap : ℕ) (call : CallValue) (s after_call : State) → cap ≤ 4096 → IsWithin cap s.core → IsFree s.core.phase → FitsCall version call → s.core.ticks < 2 ^ 64
     → row_count s.core ≤ 4096 → after_call ≡ run s (call_event call ∷ []) → row_count after_call.core ≤ 4096 → AnswerFits (call_answer call s.core)
-answer_fits laws version cap ShowCall s after_call small within free fits ticks few is few_after = (ticks, omega (arith, few))
-answer_fits laws version cap (CommitCall parts) s after_call small within free fits ticks few is few_after =
-    commit_fits parts s.core (check_of parts s.core) (λ fault there. refused_fits laws cap parts s.core fault small within free fits.0 there)
+answer_fits version cap ShowCall s after_call small within free fits ticks few is few_after = (ticks, omega (arith, few))
+answer_fits version cap (CommitCall parts) s after_call small within free fits ticks few is few_after =
+    commit_fits parts s.core (check_of parts s.core) (λ fault there. refused_fits cap parts s.core fault small within free fits.0 there)
     (subst (λ (c : Core). row_count c ≤ 4096) (ap (λ (t : State). t.core) is ∙ core_of (check_of parts s.core) parts s) few_after)

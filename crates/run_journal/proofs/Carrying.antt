@@ -23,13 +23,14 @@ use Rattle.damon_control.specs.Live.{CallValue, LiveValue}
 use Rattle.run_journal.specs.declared.entry.Entry.{Entry}
 use Rattle.run_journal.specs.declared.entry.CallAnswer.{CallAnswer}
 use Rattle.run_journal.specs.declared.entry.Entry.TheVariants.{Prepare, Check, Void, Aggregate, Call}
-use Rattle.run_journal.specs.Growth.{added_to, calls_so_far, with_call_of, GrowsByEntries, longer, replay_with}
+use Rattle.run_journal.specs.Growth.{added_to, calls_so_far, with_call_of, longer, replay_with}
 use Rattle.run_journal.specs.Replay.{EntryFits, IsJournalOf, JournalValue, Replayed, call_answer, call_at, call_event, carried, entry_events, replay, words_taken}
 use Rattle.run_journal.specs.Replaying.{Carries, CarriesCall, CarriesKnown, IsCarried, IsReplayOf, ReplayingView}
 use Rattle.run_journal.specs.Phases.{IsFree}
 use Rattle.run_journal.specs.Steps.{entry_steps, steps}
 use Rattle.sampler.specs.Seeds.{words_from}
 use Rattle.run_journal.specs.Words.{words_after, words_at}
+use Rattle.run_journal.proofs.Growing.{grows_by_entry}
 use Rattle.run_journal.proofs.Longer.{added-keeps, added-last, lengthened}
 
 -- what the calls of an entry did: its events were made, and its words were drawn
@@ -67,10 +68,10 @@ carried_by v w j e bits old new seed setup h journal is steps_are fits has =
     }
 
 -- the same of an entry that is no call
-pub carries : GrowsByEntries → (v : LiveValue) (j : JournalValue) (e : Entry) (bits : List Bool) (old new : ReplayingView) → IsReplayOf v j old → EntryFits v (replay_with v j bits) e
+pub carries : (v : LiveValue) (j : JournalValue) (e : Entry) (bits : List Bool) (old new : ReplayingView) → IsReplayOf v j old → EntryFits v (replay_with v j bits) e
     → (carried v (replay_with v j bits) e).bits ≡ [] → HasMade v (replay_with v j bits) e old new → IsCarried v v j e bits new
-carries grow v j e bits old new h fits none has =
-    let grown = grow v j (longer j e bits) e bits refl h.journal fits none in
+carries v j e bits old new h fits none has =
+    let grown = grows_by_entry v j (longer j e bits) e bits refl h.journal fits none in
     carried_by v v j e bits old new refl refl h grown.journal grown.is grown.steps_are fits has
 
 -- ---- a pass is prepared
@@ -99,8 +100,8 @@ armed_core old new p =
     let all : (n == n) ≡ true = grind (arith, nat_tests) in
     index ∙ ap (λ b. record p.mid.core { phase = cond b Armed (Clearing n) }) all
 
-pub carries_prepare : GrowsByEntries → (old new : ReplayingView) → IsPrepared old new → old.monitor.core.phase ≡ Idle → Carries old new (Prepare (old.monitor.core.ticks + 1) old.drawn) []
-carries_prepare grow old new p idle v j h =
+pub carries_prepare : (old new : ReplayingView) → IsPrepared old new → old.monitor.core.phase ≡ Idle → Carries old new (Prepare (old.monitor.core.ticks + 1) old.drawn) []
+carries_prepare old new p idle v j h =
     let r = replay_with v j [] in
     let n = row_count old.monitor.core in
     let e = Prepare (old.monitor.core.ticks + 1) old.drawn in
@@ -111,7 +112,7 @@ carries_prepare grow old new p idle v j h =
     ap (λ (s : Stream). prepare (drawn n s) ∷ clears n) (h.words ∙ ap (words_after v.seed) h.drawn)
     ∙ ap (λ (c : Core). prepare (words_at v.seed r.drawn (row_count c)) ∷ clears (row_count c)) same
     in
-    carries grow v j e [] old new h fits refl (record {
+    carries v j e [] old new h fits refl (record {
       events = subst (Makes Stands old.monitor new.monitor) events (Makes-append Stands old.monitor p.mid new.monitor (prepare (drawn n (words_from old.words)) ∷ []) (clears n) p.begin p.clear_all);
       drawn = p.drawn_is ∙ ap (λ k. old.drawn + k) count;
       rest = p.rest ∙ ap (λ k. drawn_rest k (words_from old.words)) count;
@@ -119,9 +120,9 @@ carries_prepare grow old new p idle v j h =
 
 -- ---- a pass ends
 
-pub carries_check : GrowsByEntries → (old new : ReplayingView) (bits : List Bool) → Makes Stands old.monitor new.monitor (map (λ bit. load bit) bits ++ observe ∷ []) → new.drawn ≡ old.drawn → new.words ≡ old.words
+pub carries_check : (old new : ReplayingView) (bits : List Bool) → Makes Stands old.monitor new.monitor (map (λ bit. load bit) bits ++ observe ∷ []) → new.drawn ≡ old.drawn → new.words ≡ old.words
     → old.monitor.core.phase ≡ Armed → length bits ≡ row_count old.monitor.core → Carries old new (Check (old.monitor.core.ticks + 1)) bits
-carries_check grow old new bits made drawn words armed each v j h =
+carries_check old new bits made drawn words armed each v j h =
     let r = replay_with v j bits in
     let e = Check (old.monitor.core.ticks + 1) in
     let same : old.monitor.core ≡ r.state.core = h.stands.same in
@@ -130,28 +131,28 @@ carries_check grow old new bits made drawn words armed each v j h =
     let all : take (row_count r.state.core) bits ≡ bits = take_all (row_count r.state.core) bits (omega (arith, size)) in
     let none : (carried v r e).bits ≡ [] = drop_all (row_count r.state.core) bits (omega (arith, size)) in
     let none_more : old.drawn ≡ old.drawn + 0 = omega arith in
-    carries grow v j e bits old new h fits none (record {
+    carries v j e bits old new h fits none (record {
       events = subst (λ bs. Makes Stands old.monitor new.monitor (map (λ bit. load bit) bs ++ observe ∷ [])) (sym all) made;
       drawn = drawn ∙ none_more;
       rest = ap words_from words;
     })
 
-pub carries_void : GrowsByEntries → (old new : ReplayingView) → Makes Stands old.monitor new.monitor (observe ∷ []) → new.drawn ≡ old.drawn → new.words ≡ old.words → old.monitor.core.phase ≡ VoidPhase
+pub carries_void : (old new : ReplayingView) → Makes Stands old.monitor new.monitor (observe ∷ []) → new.drawn ≡ old.drawn → new.words ≡ old.words → old.monitor.core.phase ≡ VoidPhase
     → Carries old new (Void (old.monitor.core.ticks + 1)) []
-carries_void grow old new made drawn words void v j h =
+carries_void old new made drawn words void v j h =
     let r = replay_with v j [] in
     let e = Void (old.monitor.core.ticks + 1) in
     let same : old.monitor.core ≡ r.state.core = h.stands.same in
     let fits : EntryFits v r e = (sym (ap (λ (c : Core). c.phase) same) ∙ void, ap (λ (c : Core). c.ticks + 1) same) in
     let none_more : old.drawn ≡ old.drawn + 0 = omega arith in
-    carries grow v j e [] old new h fits refl (record { events = made; drawn = drawn ∙ none_more; rest = ap words_from words })
+    carries v j e [] old new h fits refl (record { events = made; drawn = drawn ∙ none_more; rest = ap words_from words })
 
 -- ---- an aggregation
 
-pub carries_aggregate : GrowsByEntries → (old new : ReplayingView) → Makes Stands old.monitor new.monitor (aggregate (drawn (2 * old.monitor.core.attrs.max) (words_from old.words)) ∷ [])
+pub carries_aggregate : (old new : ReplayingView) → Makes Stands old.monitor new.monitor (aggregate (drawn (2 * old.monitor.core.attrs.max) (words_from old.words)) ∷ [])
     → new.drawn ≡ old.drawn + 2 * old.monitor.core.attrs.max → words_from new.words ≡ drawn_rest (2 * old.monitor.core.attrs.max) (words_from old.words) → old.monitor.core.phase ≡ Due
     → Carries old new (Aggregate old.monitor.core.ticks old.drawn) []
-carries_aggregate grow old new made drawn_is rest due v j h =
+carries_aggregate old new made drawn_is rest due v j h =
     let r = replay_with v j [] in
     let n = 2 * old.monitor.core.attrs.max in
     let e = Aggregate old.monitor.core.ticks old.drawn in
@@ -162,7 +163,7 @@ carries_aggregate grow old new made drawn_is rest due v j h =
     ap (λ (s : Stream). aggregate (drawn n s) ∷ []) (h.words ∙ ap (words_after v.seed) h.drawn)
     ∙ ap (λ (c : Core). aggregate (words_at v.seed r.drawn (2 * c.attrs.max)) ∷ []) same
     in
-    carries grow v j e [] old new h fits refl (record {
+    carries v j e [] old new h fits refl (record {
       events = subst (Makes Stands old.monitor new.monitor) events made;
       drawn = drawn_is ∙ ap (λ k. old.drawn + k) count;
       rest = rest ∙ ap (λ k. drawn_rest k (words_from old.words)) count;
@@ -191,16 +192,16 @@ carries_call old new call answer made drawn words free told v j controller h bel
     })
 
 -- the same of a call that the script has
-pub carries_known : GrowsByEntries → (old new : ReplayingView) (call : CallValue) (answer : CallAnswer) → Makes Stands old.monitor new.monitor (call_event call ∷ []) → new.drawn ≡ old.drawn → new.words ≡ old.words → IsFree old.monitor.core.phase
+pub carries_known : (old new : ReplayingView) (call : CallValue) (answer : CallAnswer) → Makes Stands old.monitor new.monitor (call_event call ∷ []) → new.drawn ≡ old.drawn → new.words ≡ old.words → IsFree old.monitor.core.phase
     → answer ≡ call_answer call old.monitor.core → CarriesKnown old new call answer
-carries_known grow old new call answer made drawn words free told v j controller index h there =
+carries_known old new call answer made drawn words free told v j controller index h there =
     let r = replay_with v j [] in
     let e = Call controller index answer in
     let same : old.monitor.core ≡ r.state.core = h.stands.same in
     let fits : EntryFits v r e = (subst (λ (c : Core). IsFree c.phase) same free, (call, there, told ∙ ap (call_answer call) same)) in
     let events : call_event call ∷ [] ≡ entry_events v r e = ap (λ o. option_map_or (λ (x : CallValue). call_event x ∷ []) o []) (sym there) in
     let none_more : old.drawn ≡ old.drawn + 0 = omega arith in
-    carries grow v j e [] old new h fits refl (record {
+    carries v j e [] old new h fits refl (record {
       events = subst (Makes Stands old.monitor new.monitor) events made;
       drawn = drawn ∙ none_more;
       rest = ap words_from words;

@@ -8,8 +8,8 @@ use Rattle.damon_core.specs.State.{row_count}
 use Rattle.damon_control.specs.Live.{LiveValue}
 use Rattle.run_journal.specs.declared.entry.Entry.{Entry}
 use Rattle.run_journal.specs.declared.entry.Entry.TheVariants.{Prepare, Check, Void, Aggregate, Call}
-use Rattle.run_journal.specs.Growth.{GrowsByEntries, GrowsByOthers, IsGrown, longer, replay_with}
-use Rattle.run_journal.specs.Replay.{EntriesFit, EntryFits, IsJournalOf, JournalValue, Replayed, begun, carried, check_size, check_sizes_from, replay, replay_from}
+use Rattle.run_journal.specs.Growth.{longer, replay_with}
+use Rattle.run_journal.specs.Replay.{EntriesFit, EntryFits, IsJournalOf, JournalValue, Replayed, begun, carried, check_size, check_sizes, check_sizes_from, replay, replay_from}
 use Rattle.page_words.specs.PassSteps.{load_steps}
 use Rattle.run_journal.specs.Steps.{entry_steps, steps, steps_from}
 
@@ -97,6 +97,14 @@ sizes_from-snoc v r (x ∷ es) e =
     ap (λ l. check_size r x ++ l) (sizes_from-snoc v (carried v r x) es e)
     ∙ sym (append_assoc (check_size r x) (check_sizes_from v (carried v r x) es) (check_size (replay_from v (carried v r x) es) e))
 
+-- The new journal is the old one with an entry that has these results: it is one of the script, and its replay, its steps and the
+-- sizes of its checks are those before, and then those of the entry.
+pub record IsGrown (v : LiveValue) (j new : JournalValue) (e : Entry) (bits : List Bool) : Type 0 where
+  pub journal : IsJournalOf v new
+  pub is : replay v new ≡ carried v (replay_with v j bits) e
+  pub steps_are : steps v new ≡ steps v j ++ entry_steps v (replay_with v j bits) e
+  pub sizes_are : check_sizes v new ≡ check_sizes v j ++ check_size (replay_with v j bits) e
+
 pub grown : (v : LiveValue) (j : JournalValue) (e : Entry) (bs : List Bool) → IsJournalOf v j → EntryFits v (replay_with v j bs) e → (carried v (replay_with v j bs) e).bits ≡ [] → IsGrown v j (longer j e bs) e bs
 grown v j e bs is fits none =
     let r = begun v j.bits in
@@ -114,11 +122,13 @@ grown v j e bs is fits none =
     }
 
 -- the same of any journal that is the longer one
-pub grows : GrowsByEntries
-grows v j new e bs same is fits none = subst (λ x. IsGrown v j x e bs) (sym same) (grown v j e bs is fits none)
+pub grows_by_entry : (v : LiveValue) (j new : JournalValue) (e : Entry) (bits : List Bool) → new ≡ longer j e bits → IsJournalOf v j
+    → EntryFits v (replay_with v j bits) e → (carried v (replay_with v j bits) e).bits ≡ [] → IsGrown v j new e bits
+grows_by_entry v j new e bs same is fits none = subst (λ x. IsGrown v j x e bs) (sym same) (grown v j e bs is fits none)
 
 -- without results
-pub grows_by_entry : GrowsByOthers
-grows_by_entry v j new e same is fits none =
+pub grows_by_other : (v : LiveValue) (j new : JournalValue) (e : Entry) → new ≡ record j { entries = j.entries ++ e ∷ [] } → IsJournalOf v j
+    → EntryFits v (replay v j) e → (carried v (replay v j) e).bits ≡ [] → IsGrown v j new e []
+grows_by_other v j new e same is fits none =
     let r : replay_with v j [] ≡ replay v j = ap (λ l. record (replay v j) { bits = l }) (sym is.none_left) in
-    grows v j new e [] (same ∙ ap (λ l. record { entries = j.entries ++ e ∷ []; bits = l }) (sym (append-nil j.bits))) is (subst (λ x. EntryFits v x e) (sym r) fits) (ap (λ x. (carried v x e).bits) r ∙ none)
+    grows_by_entry v j new e [] (same ∙ ap (λ l. record { entries = j.entries ++ e ∷ []; bits = l }) (sym (append-nil j.bits))) is (subst (λ x. EntryFits v x e) (sym r) fits) (ap (λ x. (carried v x e).bits) r ∙ none)

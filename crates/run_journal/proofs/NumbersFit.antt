@@ -18,7 +18,7 @@ use Rattle.run_journal.specs.declared.entry.Entry.TheVariants.{Prepare, Check, V
 use Rattle.run_journal.specs.declared.entry.Receipt.{Receipt}
 use Rattle.run_journal.specs.Counted.{prepares}
 use Rattle.run_journal.specs.Lawful.{IsLawful, Received, all_of, touches_of}
-use Rattle.run_journal.specs.Limits.{LawfulNumbersFit, NumbersFit, AnswerFits, CanCall, EntryNumbersFit, TagsFit}
+use Rattle.run_journal.specs.Limits.{NumbersFit, AnswerFits, CanCall, EntryNumbersFit, TagsFit}
 use Rattle.run_journal.specs.Phases.{passes_open}
 use Rattle.run_journal.specs.Replay.{EntriesFit, EntryFits, JournalValue, Replayed, begun, call_at, call_event, carried, entry_events}
 use Rattle.page_words.specs.PassSteps.{clear_steps, load_steps}
@@ -27,7 +27,7 @@ use Rattle.run_journal.proofs.AnswersFit.{answer_fits}
 use Rattle.run_journal.proofs.Fitting.{carried_reached}
 use Rattle.run_journal.proofs.PhaseAfter.{entry_counts, splits_open}
 use Rattle.run_journal.proofs.Settling.{cases, flat_append, touches-append}
-use Rattle.run_journal.proofs.Sizes.{CommitLaws, IsWithin, opening_within, run_within}
+use Rattle.run_journal.proofs.Sizes.{IsWithin, opening_within, run_within}
 use Rattle.std.proofs.lemmas.List.Elements.{Contains-append_left, Contains-append_right}
 
 -- ---- the entries
@@ -73,7 +73,6 @@ script_places v limits (Call controller index answer ∷ es) r fit =
 
 -- what the script is known to keep
 pub record Known (v : LiveValue) : Type 0 where
-  pub commits : CommitLaws
   pub in_phase : (s : State) → Reached s → IsInPhase s
   pub cap : v.setup.cap ≤ 4096
   pub can : CanCall v
@@ -91,7 +90,7 @@ entry_fits v known passes r (Call controller index answer) far fits most placed 
     let rows_after : row_count (carried v r (Call controller index answer)).state.core ≤ 4096 = omega (arith, next.few, within.0, known.cap) in
     let after : (carried v r (Call controller index answer)).state ≡ run r.state (call_event call ∷ []) = ap (λ o. run r.state (option_map_or (λ (x : CallValue). call_event x ∷ []) o [])) is in
     let told : AnswerFits answer = subst AnswerFits (sym fits.1.2)
-    (answer_fits known.commits v.setup.version v.setup.cap call r.state (carried v r (Call controller index answer)).state known.cap far.within fits.0 (known.can controller index call is) (omega (arith, far.passes_are, most)) rows after rows_after) in
+    (answer_fits v.setup.version v.setup.cap call r.state (carried v r (Call controller index answer)).state known.cap far.within fits.0 (known.can controller index call is) (omega (arith, far.passes_are, most)) rows after rows_after) in
     (placed.0, placed.1, told)
 
 entries_fit : (v : LiveValue) → Known v → (es : List Entry) (passes : ℕ) (r : Replayed) → IsSoFar v.setup.cap passes r → EntriesFit v r es → passes + sum_by prepares es ≤ 16777216 → AllByRecursion CallPlaceFits es → AllByRecursion EntryNumbersFit es
@@ -102,7 +101,7 @@ entries_fit v known (e ∷ es) passes r far fit most placed =
     let counts = entry_counts v r e here.some rows (omega (arith, far.within.1, known.cap)) fit.0 in
     let sums = sum_by-cons prepares e es in
     let reached = carried_reached v r e here.some far.reached fit.0 in
-    let within = run_within known.commits v.setup.cap r.state (entry_events v r e) far.within in
+    let within = run_within v.setup.cap r.state (entry_events v r e) far.within in
     let next : IsSoFar v.setup.cap (passes + prepares e) (carried v r e) = record {
       reached = reached;
       within = within;
@@ -179,11 +178,11 @@ all_tags (rs ∷ all) known =
 -- ---- both
 
 -- the numbers of a lawful journal, whose calls have places within their types
-pub fit_numbers : CommitLaws → ((s : State) → Reached s → IsInPhase s) → (v : LiveValue) (j : JournalValue) (all : List (List Receipt)) → CanOpen v.setup → CanCall v → AllByRecursion CallPlaceFits j.entries → IsLawful v j all
+pub fit_numbers : ((s : State) → Reached s → IsInPhase s) → (v : LiveValue) (j : JournalValue) (all : List (List Receipt)) → CanOpen v.setup → CanCall v → AllByRecursion CallPlaceFits j.entries → IsLawful v j all
     → sum_by prepares j.entries ≤ 16777216 → NumbersFit j all
 unfolding IsSmall
-fit_numbers commits in_phase v j all can call placed lawful few =
-    let known : Known v = record { commits = commits; in_phase = in_phase; cap = can.sound.cap_most; can = call } in
+fit_numbers in_phase v j all can call placed lawful few =
+    let known : Known v = record { in_phase = in_phase; cap = can.sound.cap_most; can = call } in
     let reached : Reached (opening v.setup) = record { setup = v.setup; events = []; can_open = can; fit = tt; is = refl } in
     let first : IsSoFar v.setup.cap 0 (begun v j.bits) = record { reached = reached; within = opening_within v.setup can; passes_are = refl; words_few = omega arith } in
     let numbers = entries_fit v known j.entries 0 (begun v j.bits) first lawful.journal.fit (omega (arith, few)) placed in
@@ -195,6 +194,8 @@ fit_numbers commits in_phase v j all can call placed lawful few =
           (lawful.receipts.name page tag there));
     }
 
-pub lawful_fit : CommitLaws → ((s : State) → Reached s → IsInPhase s) → LawfulNumbersFit
-lawful_fit commits in_phase v j all can limits call lawful few =
-    fit_numbers commits in_phase v j all can call (script_places v limits j.entries (begun v j.bits) lawful.journal.fit) lawful (omega (arith, few, limits.passes))
+-- the same of a script within its limits, which prepares no more passes than the script has
+pub lawful_fit : ((s : State) → Reached s → IsInPhase s) → (v : LiveValue) (j : JournalValue) (all : List (List Receipt)) → CanOpen v.setup → KeepsLimits v → CanCall v → IsLawful v j all
+    → sum_by prepares j.entries ≤ v.passes → NumbersFit j all
+lawful_fit in_phase v j all can limits call lawful few =
+    fit_numbers in_phase v j all can call (script_places v limits j.entries (begun v j.bits) lawful.journal.fit) lawful (omega (arith, few, limits.passes))

@@ -6,14 +6,10 @@ use Rattle.damon_types.specs.declared.attrs.Attrs.{Attrs}
 use Rattle.damon_types.specs.declared.range.RangeSpec.{RangeSpec}
 use Rattle.damon_types.specs.declared.space.Target.{Target}
 use Rattle.region_list.specs.Regions.{RegionList}
-use Rattle.target_ranges.specs.Laws.{HasRoom, MakesEach}
 use Rattle.target_ranges.specs.Checked.{checked_ranges}
 use Rattle.live_commit.specs.declared.fault.CommitFault.{CommitFault}
 use Rattle.live_commit.specs.declared.phase.Phase.{Phase}
 use Rattle.live_commit.specs.declared.phase.Phase.TheVariants.{Idle, Clearing, Armed, Checking, Void, Due}
-use Rattle.live_commit.specs.declared.view.View.{View}
-use Rattle.live_commit.specs.Accepted.{IsAccepted}
-use Rattle.live_commit.specs.Accepts.{checked_commit}
 use Rattle.live_commit.specs.Commit.{CommitValue}
 use Rattle.live_commit.specs.Setup.{SetupValue}
 use Rattle.damon_core.specs.After.{after, by_clear, by_load, by_observe}
@@ -21,12 +17,8 @@ use Rattle.damon_core.specs.Commit.{check_of, committed, if_accepted, regions_af
 use Rattle.damon_core.specs.Event.{Event, touch, prepare, clear, load, observe, aggregate, commit, show}
 use Rattle.damon_core.specs.Reached.{CanOpen, run}
 use Rattle.damon_core.specs.State.{Core, State, opening_core}
-
--- what the crates below say of commits that are accepted
-pub record CommitLaws : Type 0 where
-  pub accepted : (space : List Target) (v : View) (c : CommitValue) → checked_commit space v c ≡ Ok tt → IsAccepted space v c
-  pub room : HasRoom
-  pub each : MakesEach
+use Rattle.target_ranges.proofs.Lemmas.{checked_ranges-room, made_each}
+use Rattle.live_commit.proofs.Lemmas.{commit_accepted}
 
 -- the regions that are allowed, and the ranges, are at most this many
 abbrev pub IsWithin : ℕ → Core → Type 0
@@ -45,19 +37,19 @@ cap_stays : (space : List Target) (new : Option (List RangeSpec)) (max : ℕ) (r
 cap_stays space None max r = refl
 cap_stays space (Some specs) max r = refl
 
-ranges_within : CommitLaws → (space : List Target) (new : Option (List RangeSpec)) (max : ℕ) (r : RegionList) → ((specs : List RangeSpec) → new ≡ Some specs → checked_ranges space r.unit r.cap specs ≡ Ok tt) → length r.ranges ≤ r.cap
+ranges_within : (space : List Target) (new : Option (List RangeSpec)) (max : ℕ) (r : RegionList) → ((specs : List RangeSpec) → new ≡ Some specs → checked_ranges space r.unit r.cap specs ≡ Ok tt) → length r.ranges ≤ r.cap
     → length (regions_after space new max r).ranges ≤ r.cap
-ranges_within laws space None max r fresh kept = kept
-ranges_within laws space (Some specs) max r fresh kept = omega (arith, laws.each space specs, laws.room space r.unit r.cap specs (fresh specs refl))
+ranges_within space None max r fresh kept = kept
+ranges_within space (Some specs) max r fresh kept = omega (arith, made_each space specs, checked_ranges-room space r.unit r.cap specs (fresh specs refl))
 
-committed_within : CommitLaws → (cap : ℕ) (checked : Result (Unit {0}) CommitFault) (parts : CommitValue) (s : State) → check_of parts s.core ≡ checked → IsWithin cap s.core → IsWithin cap (if_accepted checked (committed parts s) s).core
-committed_within laws cap (Err fault) parts s is within = within
-committed_within laws cap (Ok t) parts s is within =
+committed_within : (cap : ℕ) (checked : Result (Unit {0}) CommitFault) (parts : CommitValue) (s : State) → check_of parts s.core ≡ checked → IsWithin cap s.core → IsWithin cap (if_accepted checked (committed parts s) s).core
+committed_within cap (Err fault) parts s is within = within
+committed_within cap (Ok t) parts s is within =
     let c = s.core in
-    let accepted = laws.accepted c.space (view_of c) parts is in
+    let accepted = commit_accepted c.space (view_of c) parts is in
     let attrs = unwrap_or parts.attrs c.attrs in
     let ranges : length (regions_after c.space parts.ranges attrs.max c.regions).ranges ≤ c.regions.cap =
-    ranges_within laws c.space parts.ranges attrs.max c.regions (λ specs some. (accepted.ranges specs some).1) (omega (arith, within.0, within.2))
+    ranges_within c.space parts.ranges attrs.max c.regions (λ specs some. (accepted.ranges specs some).1) (omega (arith, within.0, within.2))
     in (
       cap_stays c.space parts.ranges attrs.max c.regions ∙ within.0,
       max_within cap parts.attrs c.attrs (λ a some. (let few = (accepted.attrs a some).1 in omega (arith, few, within.0))) within.1,
@@ -90,16 +82,16 @@ observed_within cap (Checking k) s within = within
 observed_within cap Void s within = within
 observed_within cap Due s within = within
 
-after_within : CommitLaws → (cap : ℕ) (s : State) (e : Event) → IsWithin cap s.core → IsWithin cap (after s e).core
-after_within laws cap s (touch page) within = within
-after_within laws cap s (prepare words) within = within
-after_within laws cap s clear within = cleared_within cap s.core.phase s within
-after_within laws cap s (load hit) within = loaded_within cap s.core.phase hit s within
-after_within laws cap s observe within = observed_within cap s.core.phase s within
-after_within laws cap s (aggregate words) within = within
-after_within laws cap s (commit parts) within = committed_within laws cap (check_of parts s.core) parts s refl within
-after_within laws cap s show within = within
+after_within : (cap : ℕ) (s : State) (e : Event) → IsWithin cap s.core → IsWithin cap (after s e).core
+after_within cap s (touch page) within = within
+after_within cap s (prepare words) within = within
+after_within cap s clear within = cleared_within cap s.core.phase s within
+after_within cap s (load hit) within = loaded_within cap s.core.phase hit s within
+after_within cap s observe within = observed_within cap s.core.phase s within
+after_within cap s (aggregate words) within = within
+after_within cap s (commit parts) within = committed_within cap (check_of parts s.core) parts s refl within
+after_within cap s show within = within
 
-pub run_within : CommitLaws → (cap : ℕ) (s : State) (es : List Event) → IsWithin cap s.core → IsWithin cap (run s es).core
-run_within laws cap s [] within = within
-run_within laws cap s (e ∷ es) within = run_within laws cap (after s e) es (after_within laws cap s e within)
+pub run_within : (cap : ℕ) (s : State) (es : List Event) → IsWithin cap s.core → IsWithin cap (run s es).core
+run_within cap s [] within = within
+run_within cap s (e ∷ es) within = run_within cap (after s e) es (after_within cap s e within)

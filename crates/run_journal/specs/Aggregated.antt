@@ -1,14 +1,13 @@
 -- The states of a replay directly after its aggregations.
 use Rattle.std.specs.Prelude.{◌≡◌, List, [], ◌∷◌}
-use Rattle.std.specs.List.{AllByRecursion}
 use Rattle.damon_types.specs.RowPages.{row_pages}
 use Rattle.damon_types.specs.Ranges.{page_total}
-use Rattle.damon_core.specs.Reached.{CanOpen, Reached}
+use Rattle.damon_core.specs.Reached.{Reached}
 use Rattle.damon_core.specs.State.{State}
 use Rattle.damon_control.specs.Live.{LiveValue}
 use Rattle.run_journal.specs.declared.entry.Entry.{Entry}
 use Rattle.run_journal.specs.declared.entry.Entry.TheVariants.{Prepare, Check, Void, Aggregate, Call}
-use Rattle.run_journal.specs.Replay.{IsJournalOf, JournalValue, Replayed, begun, carried}
+use Rattle.run_journal.specs.Replay.{JournalValue, Replayed, begun, carried}
 
 -- the states directly after the aggregations among entries
 abbrev pub aggregated_from : LiveValue → Replayed → List Entry → List State
@@ -28,7 +27,3 @@ aggregated v j = aggregated_from v (begun v j.bits) j.entries
 pub record ReportsAll (s : State) : Type 0 where
   pub reached : Reached s
   pub pages : row_pages s.core.report.rows ≡ page_total s.core.regions.ranges
-
--- so it is directly after each aggregation of a journal
-abbrev pub EachReportsAll : Type 0
-EachReportsAll = (v : LiveValue) (j : JournalValue) → CanOpen v.setup → IsJournalOf v j → AllByRecursion ReportsAll (aggregated v j)

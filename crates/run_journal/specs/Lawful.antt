@@ -1,5 +1,5 @@
 -- Which journals and receipts are lawful.
-use Rattle.std.specs.Prelude.{◌≡◌, ℕ, ◌+◌, ◌<◌, List, [], ◌∷◌, ◌++◌, map}
+use Rattle.std.specs.Prelude.{ℕ, ◌+◌, ◌<◌, List, [], ◌∷◌, map}
 use Rattle.std.specs.List.{AllByRecursion, Contains, flat_map}
 use Rattle.damon_types.specs.Listed.{Listed}
 use Rattle.damon_types.specs.Space.{pages_of}
@@ -8,8 +8,7 @@ use Rattle.page_words.specs.declared.view.Entry.TheVariants.{Gathered, Load}
 use Rattle.page_words.specs.declared.view.Touch.{Touch}
 use Rattle.page_words.specs.Clauses.{TagsNameClears}
 use Rattle.page_words.specs.Clears.{IsOdd, pass_of}
-use Rattle.page_words.specs.Rule.{Agree}
-use Rattle.page_words.specs.Views.{GatheredTagsRise, TagsRise, Told, touch}
+use Rattle.page_words.specs.Views.{TagsRise, touch}
 use Rattle.damon_control.specs.Live.{LiveValue}
 use Rattle.run_journal.specs.declared.entry.Receipt.{Receipt}
 use Rattle.run_journal.specs.Phases.{IsIdle}
@@ -51,8 +50,3 @@ pub record IsLawful (v : LiveValue) (j : JournalValue) (all : List (List Receipt
   pub journal : IsJournalOf v j
   pub idle : IsIdle (replay v j).state.core.phase
   pub receipts : AreReceipts (pages_of v.setup.space) (steps v j) all
-
--- where the steps of a journal and then the touches of all workers are what the table agrees with at the end, the receipts are by
--- the rules
-abbrev pub SettledReceiptsAreLawful : Type 0
-SettledReceiptsAreLawful = (v : LiveValue) (j : JournalValue) (all : List (List Receipt)) (words : List ℕ) (entries : List Step) (pages : ℕ) → entries ≡ steps v j ++ gathers 0 all → Agree words entries (Told entries) → GatheredTagsRise entries → AllByRecursion (λ r. r.page < pages) (all_of all) → AreReceipts pages (steps v j) all

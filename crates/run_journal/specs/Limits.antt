@@ -1,19 +1,15 @@
 -- The numbers of journals of scripts that are within their limits.
-use Rattle.std.specs.Prelude.{◌≡◌, ℕ, ◌^◌, ◌≤◌, ◌<◌, List, Some, sum_by}
+use Rattle.std.specs.Prelude.{◌≡◌, ℕ, ◌^◌, ◌<◌, List, Some}
 use Rattle.std.specs.List.{AllByRecursion}
 use Rattle.live_commit.specs.declared.fault.CommitFault.{CommitFault}
 use Rattle.live_commit.specs.declared.fault.CommitFault.TheVariants.{Busy, BadRange, RangesOverMax, OverCap, BadCost}
-use Rattle.damon_core.specs.Reached.{CanOpen}
 use Rattle.damon_control.specs.Live.{CallValue, LiveValue}
-use Rattle.damon_control.specs.LiveText.{KeepsLimits}
 use Rattle.damon_control.specs.Spellable.{FitsCall}
 use Rattle.run_journal.specs.declared.entry.CallAnswer.{CallAnswer}
 use Rattle.run_journal.specs.declared.entry.CallAnswer.TheVariants.{Shown, Changed, Refused}
 use Rattle.run_journal.specs.declared.entry.Entry.{Entry}
 use Rattle.run_journal.specs.declared.entry.Entry.TheVariants.{Prepare, Check, Void, Aggregate, Call}
 use Rattle.run_journal.specs.declared.entry.Receipt.{Receipt}
-use Rattle.run_journal.specs.Counted.{prepares}
-use Rattle.run_journal.specs.Lawful.{IsLawful}
 use Rattle.run_journal.specs.Replay.{JournalValue, call_at}
 
 -- ---- values within their types
@@ -49,16 +45,7 @@ EntryNumbersFit (Call controller index answer) = (controller < 2 ^ 64) × (index
 abbrev pub TagsFit : List (List Receipt) → Type 0
 TagsFit all = AllByRecursion (λ rs. AllByRecursion (λ r. r.tag < 2 ^ 64) rs) all
 
--- ---- the law
-
 -- the numbers of the entries and the tags of the receipts are within their types
 pub record NumbersFit (j : JournalValue) (all : List (List Receipt)) : Type 0 where
   pub numbers : AllByRecursion EntryNumbersFit j.entries
   pub tags : TagsFit all
-
--- so are those of each lawful journal of a script within its limits whose calls a text can spell, where it prepares no more passes than
--- the script has
-abbrev pub LawfulNumbersFit : Type 0
-LawfulNumbersFit =
-    (v : LiveValue) (j : JournalValue) (all : List (List Receipt)) → CanOpen v.setup → KeepsLimits v → CanCall v → IsLawful v j all
-    → sum_by prepares j.entries ≤ v.passes → NumbersFit j all

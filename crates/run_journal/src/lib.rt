@@ -30,10 +30,7 @@ pub use calls::make_call;
 pub use entry::{CallAnswer, Entry, Receipt, Receipts};
 pub use journal::Journal;
 pub use lawful::{Lawful, VerifyFault};
-pub use laws::{
-    aggregations_report_all_pages, hits_are_few, journals_grow, lawful_numbers_fit,
-    settled_receipts_are_lawful, woven_runs,
-};
+pub use laws::{hits_are_few, woven_runs};
 pub use load_run::LoadRun;
 pub use receipt_list::ReceiptList;
 pub use replaying::Replaying;

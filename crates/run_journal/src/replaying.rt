@@ -15,7 +15,6 @@ ghost use Rattle.run_journal.specs.Room.{nothing_said};
 use crate::bits::CheckResults;
 use crate::calls::make_call;
 use crate::entry::CallAnswer;
-use crate::laws::journals_grow;
 use damon_control::Call;
 use damon_core::Monitor;
 use live_commit::{Phase, Setup};
@@ -89,7 +88,6 @@ impl Replaying {
         ensures drawn { self.new.drawn ≤ self.old.drawn + 2 ^ 33 }
         ensures space { self.new.monitor.core.space ≡ self.old.monitor.core.space }
     {
-        journals_grow();
         let rows = self.monitor.rows().len();
         self.monitor.prepare_from(&mut self.words);
         self.monitor.cleared_next(rows);
@@ -109,7 +107,6 @@ impl Replaying {
         ensures ended { last_pass self.new.monitor.core.phase self.new.monitor.core.ticks
             ≡ self.new.monitor.core.ticks }
     {
-        journals_grow();
         // For its clause alone: there is a row.
         let _rows = self.monitor.rows();
         bits.load_into(&mut self.monitor);
@@ -128,7 +125,6 @@ impl Replaying {
         ensures ended { last_pass self.new.monitor.core.phase self.new.monitor.core.ticks
             ≡ self.new.monitor.core.ticks }
     {
-        journals_grow();
         self.monitor.observe();
     }
 
@@ -143,7 +139,6 @@ impl Replaying {
         ensures space { self.new.monitor.core.space ≡ self.old.monitor.core.space }
         ensures phase { self.new.monitor.core.phase ≡ Idle }
     {
-        journals_grow();
         let max = self.monitor.attrs().max;
         draw_words(&mut self.words, 2 * max as usize, &mut self.buffer);
         self.monitor.aggregate(&self.buffer);
@@ -162,7 +157,6 @@ impl Replaying {
         ensures pass { last_pass self.new.monitor.core.phase self.new.monitor.core.ticks
             ≡ last_pass self.old.monitor.core.phase self.old.monitor.core.ticks }
     {
-        journals_grow();
         make_call(&mut self.monitor, call)
     }
 }

@@ -1,5 +1,5 @@
 -- The items of the runs of a slot.
-use Rattle.std.proofs.Common.{◌≡◌, ℕ, suc, ◌+◌, ◌<◌, List, [], ◌∷◌, ◌++◌, take, refl, ap, ap₂, ◌∙◌, arith, cond, Bool, true, false, subst, sym}
+use Rattle.std.proofs.Common.{◌≡◌, ℕ, suc, ◌+◌, List, [], ◌∷◌, ◌++◌, take, refl, ap, ap₂, ◌∙◌, arith, cond, Bool, true, false, subst, sym}
 use Rattle.std.specs.Prelude.{◌==◌, flat_map}
 use Rattle.std.specs.List.{AllByRecursion}
 use Rattle.std.proofs.lemmas.Bool.Decides.{nat_tests}
@@ -36,11 +36,3 @@ counted slot r rs false is own = tt
 pub first_runs : (slot : ℕ) (runs : List AppliedRun) → RunsOf slot (take (runs_of_slot slot runs) runs)
 first_runs slot [] = tt
 first_runs slot (r ∷ rs) = counted slot r rs (r.slot == slot) refl (first_runs slot rs)
-
-equal_number : (n : ℕ) → (n == n) ≡ true
-equal_number n = grind (arith, nat_tests)
-
--- there is one, where the first run is of the slot
-pub one_comes_first : (r : AppliedRun) (rs : List AppliedRun) → 0 < runs_of_slot r.slot (r ∷ rs)
-one_comes_first r rs =
-    subst (λ b. 0 < cond b (1 + runs_of_slot r.slot rs) 0) (sym (equal_number r.slot)) (omega arith)

@@ -17,8 +17,8 @@ use line_text::{field_before, number_before, text_before};
 use scheme_engine::{Applied, AppliedRun, Engine, SlotChoice};
 use std::alloc::AllocError;
 
-// Appends the lines of choices in order, each with its runs, which are in slot order like the choices. Each
-// run has a page, and its pages are pages of the space.
+// Appends the lines of choices in order, each with its runs, which are in slot order like the choices.
+// Each run has a page, and its pages are pages of the space.
 pub(crate) fn print_choices(
     out: &mut Vec<u8>,
     applied: &Applied,
@@ -122,8 +122,8 @@ impl LineOf<AppliedRun> for RunLines<'_> {
     }
 }
 
-// Writes `TARGET START-END score=..` and the line's end so that they end right before index `end`, and returns
-// the index where they begin. The functions below do the same for other parts of lines.
+// Writes `TARGET START-END score=..` and the line's end so that they end right before index `end`, and
+// returns the index where they begin. The functions below do the same for other parts of lines.
 #[inline(always)]
 fn run_before(bytes: &mut [u8], end: usize, run: &AppliedRun, space: &Space) -> usize
     requires some { 1 ≤ run.now.pages }

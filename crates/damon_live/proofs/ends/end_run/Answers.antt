@@ -22,7 +22,7 @@ returns-clause-run g c =
     let settled = c.settle.ensures in
     let all = receipts_said c.gather_all.new.all in
     let entries : c.gather_all.new.seat.entries ≡ steps v c.args.kept ++ gathers 0 all = got.entries ∙ ap (λ (s : MonitorSeatView). s.entries ++ gathers 0 all) parts.seat in
-    let run = whole_run v c.args.kept all c.settle.result c.gather_all.new.seat.entries c.settled_receipts_are_lawful.ensures c.woven_runs.ensures c.hits_are_few.ensures parts.can parts.fits c.requires.made parts.calls parts.most entries settled.agree settled.tags got.traces c.requires.pages in
+    let run = whole_run v c.args.kept all c.settle.result c.gather_all.new.seat.entries c.woven_runs.ensures c.hits_are_few.ensures parts.can parts.fits c.requires.made parts.calls parts.most entries settled.agree settled.tags got.traces c.requires.pages in
     subst (λ (j : JournalValue). IsWholeRun v j all) (sym parts.journal) run
 
 pub returns-clause-stands : goal.returns-clause-stands

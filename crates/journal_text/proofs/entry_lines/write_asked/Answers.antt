@@ -6,7 +6,8 @@ use Rattle.damon_control.specs.Live.{CommitCall}
 use Rattle.damon_control.specs.LiveView.{call_value}
 use Rattle.damon_control.specs.Written.{written_commit}
 use Rattle.journal_text.specs.Spelled.{call_front, call_lines}
-use Rattle.journal_text.proofs.Appended.{front_line, lines_added}
+use Rattle.script_lines.proofs.Lemmas.{lines_added}
+use Rattle.journal_text.proofs.EntriesText.{front_line}
 use Rattle.journal_text.proofs.entry_lines.write_asked.Goals as goal
 
 pub returns-in_ok-write_parts-in-Commit-clause-ok : goal.returns-in_ok-write_parts-in-Commit-clause-ok

@@ -4,7 +4,7 @@ use Rattle.script_lines.specs.Lines.{lines_text}
 use Rattle.damon_control.specs.LiveView.{call_value, live_said}
 use Rattle.run_journal.specs.Replay.{call_at}
 use Rattle.journal_text.specs.Spelled.{answered_lines, call_lines, spelled_answer}
-use Rattle.journal_text.proofs.Appended.{lines_added}
+use Rattle.script_lines.proofs.Lemmas.{lines_added}
 use Rattle.journal_text.proofs.entry_lines.write_call.Goals as goal
 
 pub returns-in_ok-write_asked-in-Some-clause-ok : goal.returns-in_ok-write_asked-in-Some-clause-ok

@@ -47,7 +47,7 @@ invariant_of-self g c =
       limits = i.limits;
       pages = i.pages;
       out = i.out;
-      run = subst (λ ks. IsRun v g.N.Named.table now s.seat c.aggregate-2.new.self.value ks c.draw_words.new.source more) (sym kept) (aggregated_run v g.N.Named.table m now s.seat s.journal.value c.aggregate-2.new.self.value s.journal.checked s.random c.draw_words.new.source s.drawn tick more c.journals_grow.ensures.other i.run made due c.ticks-tick.ensures sum (ap (λ (j : JournalView). j.value) c.aggregate-2.ensures));
+      run = subst (λ ks. IsRun v g.N.Named.table now s.seat c.aggregate-2.new.self.value ks c.draw_words.new.source more) (sym kept) (aggregated_run v g.N.Named.table m now s.seat s.journal.value c.aggregate-2.new.self.value s.journal.checked s.random c.draw_words.new.source s.drawn tick more i.run made due c.ticks-tick.ensures sum (ap (λ (j : JournalView). j.value) c.aggregate-2.ensures));
       room = subst (λ k. HasRoom v now.core c.aggregate-2.new.self s.passes more k (length s.places.items)) (sym c.draw_words.ensures.capacity) (room_left v m.core now.core s.journal c.aggregate-2.new.self (Aggregate tick s.drawn) [] s.passes s.drawn more _ _ i.room refl takes longer);
     }
 

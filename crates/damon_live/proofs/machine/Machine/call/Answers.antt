@@ -38,7 +38,7 @@ invariant_of-self g c =
       limits = i.limits;
       pages = i.pages;
       out = i.out;
-      run = subst (λ ks. IsRun v g.N.Named.table now s.seat c.call-place.new.self.value ks s.random s.drawn) (sym kept) (called_run v g.N.Named.table m now s.seat s.journal.value c.call-place.new.self.value s.journal.checked s.random s.drawn controller index call answer c.journals_grow.ensures.other i.run called free is c.make_call-answer.ensures.answer (ap (λ (j : JournalView). j.value) c.call-place.ensures.entry));
+      run = subst (λ ks. IsRun v g.N.Named.table now s.seat c.call-place.new.self.value ks s.random s.drawn) (sym kept) (called_run v g.N.Named.table m now s.seat s.journal.value c.call-place.new.self.value s.journal.checked s.random s.drawn controller index call answer i.run called free is c.make_call-answer.ensures.answer (ap (λ (j : JournalView). j.value) c.call-place.ensures.entry));
       room = room_left v m.core now.core s.journal c.call-place.new.self e [] s.passes s.drawn s.drawn _ _ i.room refl (call_takes m.core now.core s.drawn _ _ called.ticks called.cap called.opened called.owed called.words (one_call_less v s.journal.value.entries e refl left)) longer;
     }
 

@@ -57,7 +57,7 @@ invariant_of-self g c =
       limits = i.limits;
       pages = i.pages;
       out = ap (λ (x : MonitorSeatView). x.out) loaded.seat ∙ i.out;
-      run = checked_run v g.N.Named.table m mid now s.seat c.load_all.new.seat s.journal.value c.check.new.self.value s.journal.checked c.check.new.self.checked s.random s.drawn pass c.journals_grow.ensures.entry i.run loaded observed armed (ap (λ t. t + 1) c.ticks-pass.ensures) more.value (ap (λ (j : JournalView). j.checked) is);
+      run = checked_run v g.N.Named.table m mid now s.seat c.load_all.new.seat s.journal.value c.check.new.self.value s.journal.checked c.check.new.self.checked s.random s.drawn pass i.run loaded observed armed (ap (λ t. t + 1) c.ticks-pass.ensures) more.value (ap (λ (j : JournalView). j.checked) is);
       room = subst (λ k. HasRoom v now.core c.check.new.self s.passes s.drawn (vec_capacity s.buffer) k) (sym kept) room;
     }
 

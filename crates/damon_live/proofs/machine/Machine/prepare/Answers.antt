@@ -50,7 +50,7 @@ invariant_of-self g c =
       limits = i.limits;
       pages = i.pages;
       out = ap (λ (x : MonitorSeatView). x.out) c.clear_each.ensures.seat ∙ i.out;
-      run = subst (λ ks. IsRun v table now c.clear_each.new.seat c.prepare.new.self.value ks c.prepare_from.new.source more) (sym kept) (prepared_run v table m now s.seat c.clear_each.new.seat s.journal.value c.prepare.new.self.value s.journal.checked s.random c.prepare_from.new.source s.drawn pass more c.journals_grow.ensures.other i.run prepared idle number sum (ap (λ (j : JournalView). j.value) c.prepare.ensures));
+      run = subst (λ ks. IsRun v table now c.clear_each.new.seat c.prepare.new.self.value ks c.prepare_from.new.source more) (sym kept) (prepared_run v table m now s.seat c.clear_each.new.seat s.journal.value c.prepare.new.self.value s.journal.checked s.random c.prepare_from.new.source s.drawn pass more i.run prepared idle number sum (ap (λ (j : JournalView). j.value) c.prepare.ensures));
       room = prepared_room v m now mid s.journal c.prepare.new.self (drawn (row_count m.core) (words_from s.random)) s.passes s.drawn _ _ more pass i.room idle left c.prepare_from.ensures.core clear (omega (arith, count, c.len-rows.ensures.few, c.len-rows.ensures.most, c.len-rows.ensures.small)) sum c.prepare.ensures;
     }
 

@@ -31,7 +31,7 @@ invariant_of-self g c =
       limits = i.limits;
       pages = i.pages;
       out = i.out;
-      run = subst (λ ks. IsRun v g.N.Named.table now s.seat c.void.new.self.value ks s.random s.drawn) (sym kept) (voided_run v g.N.Named.table m now s.seat s.journal.value c.void.new.self.value s.journal.checked s.random s.drawn pass c.journals_grow.ensures.other i.run observed void (ap (λ t. t + 1) c.ticks-pass.ensures) (ap (λ (j : JournalView). j.value) c.void.ensures));
+      run = subst (λ ks. IsRun v g.N.Named.table now s.seat c.void.new.self.value ks s.random s.drawn) (sym kept) (voided_run v g.N.Named.table m now s.seat s.journal.value c.void.new.self.value s.journal.checked s.random s.drawn pass i.run observed void (ap (λ t. t + 1) c.ticks-pass.ensures) (ap (λ (j : JournalView). j.value) c.void.ensures));
       room = room_left v m.core now.core s.journal c.void.new.self (Void pass) [] s.passes s.drawn s.drawn _ _ i.room refl (pass_takes m m now [] s.drawn observed refl refl (ap passes_open void) (ap entries_owed void) (ap words_owed void) (omega arith) _ _ (same_calls v s.journal.value.entries (Void pass) refl)) more;
     }
 

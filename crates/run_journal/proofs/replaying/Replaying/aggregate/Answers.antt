@@ -28,7 +28,7 @@ returns c =
     let few : more ≤ s.drawn + 2 ^ 33 = (let w = c.from.ensures in let f : c.from.result < 2 ^ 32 = search rules in omega (arith, w, f)) in
     let was : c.args.self.now.drawn ≡ s.drawn = sym (ap (λ (r : ReplayingView). r.drawn) c.self.view_is) in
     record {
-      entry = subst (λ (o : ReplayingView). Carries o new (Aggregate o.monitor.core.ticks o.drawn) []) c.self.view_is (carries_aggregate c.journals_grow.ensures.entry old new made sum rest due);
+      entry = subst (λ (o : ReplayingView). Carries o new (Aggregate o.monitor.core.ticks o.drawn) []) c.self.view_is (carries_aggregate old new made sum rest due);
       ticks = ap (λ (d : Core). d.ticks) c.aggregate.ensures.core ∙ ap (λ (r : ReplayingView). r.monitor.core.ticks) c.self.view_is;
       drawn = omega (arith, was, few);
       space = ap (λ (d : Core). d.space) c.aggregate.ensures.core ∙ ap (λ (r : ReplayingView). r.monitor.core.space) c.self.view_is;

@@ -16,7 +16,7 @@ returns c =
     let free = subst (λ (r : ReplayingView). IsFree r.monitor.core.phase) (sym c.self.view_is) c.requires in
     record {
       entry = subst (λ (o : ReplayingView). CarriesCall o new call c.make_call.result) c.self.view_is (carries_call old new call c.make_call.result c.make_call.ensures.event refl refl free c.make_call.ensures.answer);
-      known = subst (λ (o : ReplayingView). CarriesKnown o new call c.make_call.result) c.self.view_is (carries_known c.journals_grow.ensures.entry old new call c.make_call.result c.make_call.ensures.event refl refl free c.make_call.ensures.answer);
+      known = subst (λ (o : ReplayingView). CarriesKnown o new call c.make_call.result) c.self.view_is (carries_known old new call c.make_call.result c.make_call.ensures.event refl refl free c.make_call.ensures.answer);
       answer = c.make_call.ensures.answer ∙ ap (λ (r : ReplayingView). call_answer call r.monitor.core) c.self.view_is;
       ticks = c.make_call.ensures.ticks ∙ ap (λ (r : ReplayingView). r.monitor.core.ticks) c.self.view_is;
       drawn = ap (λ (r : ReplayingView). r.drawn) c.self.view_is;

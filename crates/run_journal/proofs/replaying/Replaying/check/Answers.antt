@@ -19,7 +19,7 @@ returns g c =
     let each = c.requires.each ∙ sym (ap (λ (r : ReplayingView). length r.monitor.core.regions.rows) c.self.view_is) in
     let made = Makes-append Stands s.monitor c.load_into.new.monitor c.observe.new.self (map (λ bit. load bit) bits) (observe ∷ []) c.load_into.ensures.events c.observe.ensures.event in
     record {
-      entry = subst (λ (o : ReplayingView). Carries o new (Check (o.monitor.core.ticks + 1)) bits) c.self.view_is (carries_check c.journals_grow.ensures.entry old new bits made refl refl armed each);
+      entry = subst (λ (o : ReplayingView). Carries o new (Check (o.monitor.core.ticks + 1)) bits) c.self.view_is (carries_check old new bits made refl refl armed each);
       ticks = ap (λ (d : Core). d.ticks) c.observe.ensures.core ∙ (ap (λ (d : Core). d.ticks + 1) c.load_into.ensures.core ∙ ap (λ (r : ReplayingView). r.monitor.core.ticks + 1) c.self.view_is);
       drawn = ap (λ (r : ReplayingView). r.drawn) c.self.view_is;
       space = ap (λ (d : Core). d.space) c.observe.ensures.core ∙ (ap (λ (d : Core). d.space) c.load_into.ensures.core ∙ ap (λ (r : ReplayingView). r.monitor.core.space) c.self.view_is);

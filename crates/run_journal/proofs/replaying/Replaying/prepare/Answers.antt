@@ -35,7 +35,7 @@ returns c =
     let was : c.args.self.now.drawn ≡ s.drawn = sym (ap (λ (r : ReplayingView). r.drawn) c.self.view_is) in
     let few : c.from.result ≤ 2 ^ 33 = search rules in
     record {
-      entry = subst (λ (o : ReplayingView). Carries o new (Prepare (o.monitor.core.ticks + 1) o.drawn) []) c.self.view_is (carries_prepare c.journals_grow.ensures.entry old new made idle);
+      entry = subst (λ (o : ReplayingView). Carries o new (Prepare (o.monitor.core.ticks + 1) o.drawn) []) c.self.view_is (carries_prepare old new made idle);
       phase = ap (λ (d : Core). d.phase) armed;
       ticks = ap (λ (d : Core). d.ticks) armed ∙ (ap (λ (d : Core). d.ticks) c.prepare_from.ensures.core ∙ ap (λ (r : ReplayingView). r.monitor.core.ticks) c.self.view_is);
       drawn = omega (arith, was, few);

@@ -13,7 +13,7 @@ returns c =
     let new : ReplayingView = record { monitor = c.observe.new.self; words = s.words; drawn = s.drawn } in
     let void = ap (λ (r : ReplayingView). r.monitor.core.phase) c.self.view_is ∙ c.requires.void in
     record {
-      entry = subst (λ (o : ReplayingView). Carries o new (Void (o.monitor.core.ticks + 1)) []) c.self.view_is (carries_void c.journals_grow.ensures.entry old new c.observe.ensures.event refl refl void);
+      entry = subst (λ (o : ReplayingView). Carries o new (Void (o.monitor.core.ticks + 1)) []) c.self.view_is (carries_void old new c.observe.ensures.event refl refl void);
       ticks = ap (λ (d : Core). d.ticks) c.observe.ensures.core ∙ ap (λ (r : ReplayingView). r.monitor.core.ticks + 1) c.self.view_is;
       drawn = ap (λ (r : ReplayingView). r.drawn) c.self.view_is;
       space = ap (λ (d : Core). d.space) c.observe.ensures.core ∙ ap (λ (r : ReplayingView). r.monitor.core.space) c.self.view_is;
