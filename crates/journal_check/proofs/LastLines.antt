@@ -3,6 +3,7 @@ use Rattle.std.proofs.Common.{◌≡◌, ℕ, ◌+◌, ◌<◌, true, List, [], 
 use Rattle.std.specs.Prelude.{Option, Result}
 use Rattle.std.specs.Option.{ok_or, option_copied}
 use Rattle.line_text.specs.Parts.{parts, parts_left}
+use Rattle.line_text.proofs.Lemmas.{parts_some}
 use Rattle.script_lines.specs.Refusal.{◌>>=◌}
 use Rattle.script_lines.specs.Words.{same_word}
 use Rattle.run_journal.specs.declared.lawful.VerifyFault.{VerifyFault}
@@ -11,7 +12,6 @@ use Rattle.journal_text.specs.EntryLine.{where_so}
 use Rattle.journal_check.specs.LinesLeft.{IsFault}
 use Rattle.journal_text.specs.Place.{AtLast, JournalRead}
 use Rattle.journal_text.specs.Reading.{said_from}
-use Rattle.journal_text.proofs.Lemmas.{parts-some}
 
 -- a text and the wanted one are split after their first lines
 pub record AreSplit (text wanted line want : List ℕ) (lines wants : List (List ℕ)) : Type 0 where
@@ -44,7 +44,7 @@ pub goes_on : (n : ℕ) (text wanted line want rest after : List ℕ) → AreSpl
     → (said : JournalRead) → said_from n (AtLast said (parts 10 wanted)) (parts 10 text) ≡ said_from (n + 1) (AtLast said (parts 10 after)) (parts 10 rest)
 goes_on n text wanted line want rest after split e said =
     split_said n text wanted line want (parts 10 rest) (parts 10 after) said split
-    ∙ wanted_line n said line want (parts 10 rest) (parts 10 after) (parts-some 10 rest) (parts-some 10 after) e
+    ∙ wanted_line n said line want (parts 10 rest) (parts 10 after) (parts_some 10 rest) (parts_some 10 after) e
 
 text_ends : (n : ℕ) (said : JournalRead) (line want : List ℕ) (wants : List (List ℕ)) → 0 < length wants → said_from n (AtLast said (want ∷ wants)) (line ∷ []) ≡ Err n
 text_ends n said line want [] more = absurd (omega arith)
@@ -54,7 +54,7 @@ text_ends n said line want (v ∷ wants) more = refl
 pub ends_before : (n : ℕ) (text wanted line want after : List ℕ) → AreSplit text wanted line want [] (parts 10 after)
     → (said : JournalRead) → said_from n (AtLast said (parts 10 wanted)) (parts 10 text) ≡ Err n
 ends_before n text wanted line want after split said =
-    split_said n text wanted line want [] (parts 10 after) said split ∙ text_ends n said line want (parts 10 after) (parts-some 10 after)
+    split_said n text wanted line want [] (parts 10 after) said split ∙ text_ends n said line want (parts 10 after) (parts_some 10 after)
 
 text_goes_on : (n : ℕ) (said : JournalRead) (line want : List ℕ) (lines : List (List ℕ)) → 0 < length lines → said_from n (AtLast said (want ∷ [])) (line ∷ lines) ≡ Err n
 text_goes_on n said line want [] some = absurd (omega arith)
@@ -64,7 +64,7 @@ text_goes_on n said line want (next ∷ lines) some = refl
 pub ends_after : (n : ℕ) (text wanted line want rest : List ℕ) → AreSplit text wanted line want (parts 10 rest) []
     → (said : JournalRead) → said_from n (AtLast said (parts 10 wanted)) (parts 10 text) ≡ Err n
 ends_after n text wanted line want rest split said =
-    split_said n text wanted line want (parts 10 rest) [] said split ∙ text_goes_on n said line want (parts 10 rest) (parts-some 10 rest)
+    split_said n text wanted line want (parts 10 rest) [] said split ∙ text_goes_on n said line want (parts 10 rest) (parts_some 10 rest)
 
 -- the fault that is returned is that of the text
 pub fault_is : (fault : VerifyFault) (n : ℕ) (said : Result JournalRead ℕ) → fault ≡ Unlawful n → said ≡ Err n → IsFault fault said
