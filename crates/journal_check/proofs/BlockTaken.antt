@@ -1,5 +1,5 @@
 -- Lines that are taken from a journal text, and the block of a commit.
-use Rattle.std.proofs.Common.{◌≡◌, ℕ, ◌+◌, ◌<◌, ◌≤◌, Bool, true, false, List, [], ◌∷◌, length, codes, Ok, Err, Some, None, refl, sym, ap, ◌∙◌, length-append, arith}
+use Rattle.std.proofs.Common.{◌≡◌, ℕ, ◌<◌, ◌≤◌, Bool, true, false, List, ◌∷◌, length, codes, Ok, Err, Some, None, refl, sym, ap, ◌∙◌, arith}
 use Rattle.std.specs.Prelude.{IfSome, Option, Result, option_map, if◌then◌else◌}
 use Rattle.std.specs.Cmp.Lexicographic.{same_text}
 use Rattle.std.specs.Option.{ok_or}
@@ -9,8 +9,7 @@ use Rattle.live_commit.specs.Commit.{CommitValue}
 use Rattle.script_lines.specs.declared.kind.ScriptKind.{ScriptKind}
 use Rattle.script_lines.specs.declared.kind.ScriptKind.TheVariants.{Word}
 use Rattle.script_lines.specs.declared.part.Part.{Part}
-use Rattle.script_lines.specs.declared.part.Part.TheVariants.{Attrs, Range, Slot, Metric, Cost}
-use Rattle.script_lines.specs.Body.{part_line, with_part, with_range}
+use Rattle.script_lines.specs.Body.{part_line, with_part}
 use Rattle.script_lines.specs.Refusal.{◌>>=◌}
 use Rattle.script_lines.specs.Words.{same_word}
 use Rattle.damon_control.specs.Live.{CommitCall, LiveValue}
@@ -86,23 +85,7 @@ no_part v j c commit line kind is said = other_line v j c commit line (Err kind)
 
 -- ---- the ranges of a commit are at most as many as the lines
 
-few_later : (n : ℕ) (ranges : Option (List RangeSpec)) → IfSome ranges (λ rs. length rs ≤ n) → IfSome ranges (λ rs. length rs ≤ n + 1)
-few_later n None few = tt
-few_later n (Some rs) few = omega (arith, few)
-
-few_with : (n : ℕ) (ranges : Option (List RangeSpec)) (r : RangeSpec) → IfSome ranges (λ rs. length rs ≤ n) → IfSome (with_range ranges r) (λ rs. length rs ≤ n + 1)
-few_with n None r few = omega arith
-few_with n (Some rs) r few = omega (arith, few, length-append rs (r ∷ []))
-
--- one part more is at most one range more
-pub few_more : (n : ℕ) (commit : CommitValue) (part : Part) → IfSome commit.ranges (λ rs. length rs ≤ n) → IfSome (with_part commit part).ranges (λ rs. length rs ≤ n + 1)
-few_more n commit (Attrs a) few = few_later n commit.ranges few
-few_more n commit (Range r) few = few_with n commit.ranges r few
-few_more n commit (Slot s) few = few_later n commit.ranges few
-few_more n commit (Metric m) few = few_later n commit.ranges few
-few_more n commit (Cost k) few = few_later n commit.ranges few
-
--- so there is room for one more
+-- there is room for one more range
 pub few_below : {L : Type 0} (list : L → List RangeSpec) (n m : ℕ) (ranges : Option L) → n < m → IfSome (option_map list ranges) (λ rs. length rs ≤ n) → IfSome ranges (λ l. length (list l) < m)
 few_below list n m None below few = tt
 few_below list n m (Some l) below few = omega (arith, below, few)

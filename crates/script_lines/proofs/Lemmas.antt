@@ -4,7 +4,7 @@ pub use Rattle.script_lines.proofs.LineTexts.{drop-at, joined_before, lines_adde
 pub use Rattle.script_lines.proofs.LinesBack.{lines_read_back}
 pub use Rattle.script_lines.proofs.SaidSchemes.{scheme_said, scheme_set}
 pub use Rattle.script_lines.proofs.SpellCommands.{command_line-Ok, part_line-Ok, sweep_line-pages, touch_line-page}
-pub use Rattle.script_lines.proofs.SpellLines.{attrs_in-Ok, attrs_line-Ok, cap_line-Ok, one_target-Ok, passes_line-Ok, range_in-Ok, range_line-Ok, seed_line-Ok, target_line-Ok, unit_line-Ok}
+pub use Rattle.script_lines.proofs.SpellLines.{attrs_in-Ok, attrs_line-Ok, cap_line-Ok, limited-bounds, one_target-Ok, passes_line-Ok, range_in-Ok, range_line-Ok, seed_line-Ok, target_line-Ok, unit_line-Ok}
 pub use Rattle.script_lines.proofs.SpellSchemes.{scheme_line-Ok}
 pub use Rattle.script_lines.proofs.SpellWords.{alone-Ok}
 pub use Rattle.script_lines.proofs.WordLemmas.{begins_other}

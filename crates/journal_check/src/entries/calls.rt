@@ -18,7 +18,7 @@ ghost use Rattle.run_journal.specs.Replay.{JournalValue};
 use crate::entries::fold::Fold;
 use crate::entries::lines::{call_word, is_answer};
 use crate::journal_lines::JournalLines;
-use damon_control::{Call, MAX_CONTROLLERS, add_part, write_part};
+use damon_control::{Call, MAX_CONTROLLERS, add_part, empty_commit, write_part};
 use damon_types::Version;
 use journal_text::without_end;
 use live_commit::{Commit, Phase};
@@ -217,13 +217,7 @@ fn read_block(
     ensures short { IsShort lines.new }
     ensures shorter { OnOk result (length lines.new.rest.now < length lines.old.rest.now) }
 {
-    let mut commit = Commit {
-        attrs: None,
-        ranges: None,
-        slot: None,
-        metric: None,
-        cost: None,
-    };
+    let mut commit = empty_commit();
     'lines: loop {
         take_ranges(alloc, lines, &mut commit)?;
         let line = lines.take_line()?;

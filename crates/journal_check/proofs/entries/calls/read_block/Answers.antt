@@ -5,10 +5,11 @@ use Rattle.script_lines.specs.Body.{no_commit, part_line, with_part}
 use Rattle.script_lines.specs.Words.{same_word}
 use Rattle.damon_control.specs.Live.{CommitCall}
 use Rattle.damon_control.specs.Written.{part_text}
+use Rattle.damon_control.proofs.Lemmas.{few_more}
 use Rattle.run_journal.specs.declared.lawful.VerifyFault.{VerifyFault}
 use Rattle.journal_check.specs.LinesLeft.{IsFault, lines_left, said_left}
 use Rattle.journal_text.specs.Place.{AtAnswer, InBlock}
-use Rattle.journal_check.proofs.BlockTaken.{ahead_same, applied, few_below, few_more, leads_on, line_refused, no_part, no_receipts, part_added, part_is_no_receipts}
+use Rattle.journal_check.proofs.BlockTaken.{ahead_same, applied, few_below, leads_on, line_refused, no_part, no_receipts, part_added, part_is_no_receipts}
 use Rattle.journal_check.proofs.entries.calls.read_block.Goals as goal
 
 pub returns-then-same_word-clause-commit : goal.returns-then-same_word-clause-commit

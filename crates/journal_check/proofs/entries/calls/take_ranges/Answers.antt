@@ -2,9 +2,10 @@ use Rattle.std.proofs.Common.{◌≤◌, ◌<◌, ◌^◌, ◌-◌, ℕ, length,
 use Rattle.live_commit.specs.Commit.{CommitValue, commit_value}
 use Rattle.script_lines.specs.declared.part.Part.TheVariants.{Range}
 use Rattle.script_lines.specs.Body.{wants_slot, with_part}
+use Rattle.damon_control.proofs.Lemmas.{few_more}
 use Rattle.journal_check.specs.LinesLeft.{said_left}
 use Rattle.journal_text.specs.Place.{InBlock}
-use Rattle.journal_check.proofs.BlockTaken.{few_below, few_more}
+use Rattle.journal_check.proofs.BlockTaken.{few_below}
 use Rattle.journal_check.proofs.entries.calls.take_ranges.Goals as goal
 
 pub add_part-requires : goal.add_part-requires
