@@ -3,10 +3,10 @@ use Rattle.std.proofs.Common.{◌≡◌, ℕ, ◌≤◌, ◌<◌, List, [], ◌�
 use Rattle.std.specs.Prelude.{◌-◌, ◌^◌, ◌&&◌, nat_le, if◌then◌else◌}
 use Rattle.std.specs.List.{AllByRecursion}
 use Rattle.std.proofs.lemmas.Bool.Decides.{nat_tests}
-use Rattle.line_text.specs.Laws.{ReadsOnlyDecimal}
 use Rattle.line_text.specs.Number.{number}
 use Rattle.line_text.specs.Parts.{parts}
 use Rattle.line_text.specs.declared.bytes.TheConstants.{COLON}
+use Rattle.line_text.proofs.Lemmas.{number-Some}
 use Rattle.damon_types.specs.declared.scheme.TheConstants.{MAX_SLOT}
 use Rattle.quota_goal.specs.declared.goals.Goal.{Goal}
 use Rattle.quota_goal.specs.declared.goals.GoalKind.{GoalKind}
@@ -46,28 +46,27 @@ both_there (Some goal) (Some more) goals is one others =
     let same : goal ∷ more ≡ goals = cc is in
     subst (AllByRecursion IsGoal) same (one goal refl, others more refl)
 
-module _ (reads : ReadsOnlyDecimal) where
-  slot_within : (word : List ℕ) (slot : ℕ) → number MAX_SLOT word ≡ Some slot → slot ≤ MAX_SLOT
-  slot_within word slot is = let few : 15 < 2 ^ 64 = omega arith in (reads MAX_SLOT slot word few is).1
+slot_within : (word : List ℕ) (slot : ℕ) → number MAX_SLOT word ≡ Some slot → slot ≤ MAX_SLOT
+slot_within word slot is = let few : 15 < 2 ^ 64 = omega arith in (number-Some MAX_SLOT slot word few is).1
 
-  fields_within : (fields : List (List ℕ)) (goal : Goal) → goal_in fields ≡ Some goal → IsGoal goal
-  fields_within [] goal is = absurd (cc is)
-  fields_within (a ∷ []) goal is = absurd (cc is)
-  fields_within (a ∷ b ∷ []) goal is = absurd (cc is)
-  fields_within (a ∷ b ∷ c ∷ []) goal is = absurd (cc is)
-  fields_within (a ∷ b ∷ c ∷ d ∷ []) goal is = absurd (cc is)
-  fields_within (a ∷ b ∷ c ∷ d ∷ e ∷ []) goal is =
-      all_there (number MAX_SLOT a) (kind_of b) (number (2 ^ 32 - 1) c) (number (2 ^ 64 - 1) d) (number (2 ^ 64 - 1) e) goal is (slot_within a)
-  fields_within (a ∷ b ∷ c ∷ d ∷ e ∷ f ∷ fs) goal is = absurd (cc is)
+fields_within : (fields : List (List ℕ)) (goal : Goal) → goal_in fields ≡ Some goal → IsGoal goal
+fields_within [] goal is = absurd (cc is)
+fields_within (a ∷ []) goal is = absurd (cc is)
+fields_within (a ∷ b ∷ []) goal is = absurd (cc is)
+fields_within (a ∷ b ∷ c ∷ []) goal is = absurd (cc is)
+fields_within (a ∷ b ∷ c ∷ d ∷ []) goal is = absurd (cc is)
+fields_within (a ∷ b ∷ c ∷ d ∷ e ∷ []) goal is =
+    all_there (number MAX_SLOT a) (kind_of b) (number (2 ^ 32 - 1) c) (number (2 ^ 64 - 1) d) (number (2 ^ 64 - 1) e) goal is (slot_within a)
+fields_within (a ∷ b ∷ c ∷ d ∷ e ∷ f ∷ fs) goal is = absurd (cc is)
 
-  words_within : (words : List (List ℕ)) (goals : List Goal) → goals_in words ≡ Some goals → AllByRecursion IsGoal goals
-  words_within [] goals is = let same : [] ≡ goals = cc is in subst (AllByRecursion IsGoal) same tt
-  words_within (word ∷ words) goals is =
-      both_there (goal_of word) (goals_in words) goals is (λ goal. fields_within (parts COLON word) goal) (λ more. words_within words more)
+words_within : (words : List (List ℕ)) (goals : List Goal) → goals_in words ≡ Some goals → AllByRecursion IsGoal goals
+words_within [] goals is = let same : [] ≡ goals = cc is in subst (AllByRecursion IsGoal) same tt
+words_within (word ∷ words) goals is =
+    both_there (goal_of word) (goals_in words) goals is (λ goal. fields_within (parts COLON word) goal) (λ more. words_within words more)
 
-  pub said_goals : (words : List (List ℕ)) (goals : List Goal) → goals_of words ≡ Some goals → AllByRecursion IsGoal goals
-  said_goals words goals is = by (nat_le 1 (length words) && nat_le (length words) MAX_GOALS) is
-    where
-      by : (t : Bool) → (if t then goals_in words else None) ≡ Some goals → AllByRecursion IsGoal goals
-      by true is = words_within words goals is
-      by false is = absurd (cc is)
+pub said_goals : (words : List (List ℕ)) (goals : List Goal) → goals_of words ≡ Some goals → AllByRecursion IsGoal goals
+said_goals words goals is = by (nat_le 1 (length words) && nat_le (length words) MAX_GOALS) is
+  where
+    by : (t : Bool) → (if t then goals_in words else None) ≡ Some goals → AllByRecursion IsGoal goals
+    by true is = words_within words goals is
+    by false is = absurd (cc is)

@@ -13,8 +13,6 @@ ghost use Rattle.damon_app.specs.Runs.{GeneratedRunsAreRight};
 pub(crate) fn each_run_is_bound()
     ensures { EachRunIsBound }
 {
-    damon_control::texts_are_exactly_read();
-    damon_control::scripts_are_sound();
     script_run::each_script_is_bound();
     script_run::events_are_alone();
 }
@@ -23,8 +21,6 @@ pub(crate) fn each_run_is_bound()
 pub(crate) fn each_run_chooses_best()
     ensures { EachRunChoosesBest }
 {
-    damon_control::texts_are_exactly_read();
-    damon_control::scripts_are_sound();
     script_run::each_choice_is_best();
     script_run::events_are_alone();
 }
@@ -42,8 +38,6 @@ pub(crate) fn generated_runs_are_bound()
 pub(crate) fn each_run_is_accounted()
     ensures { EachRunIsAccounted }
 {
-    damon_control::texts_are_exactly_read();
-    damon_control::scripts_are_sound();
     trace_gen::generated_scripts_are_sound();
     reclaim_run::each_reclaimed_run_is_accounted();
 }
@@ -52,10 +46,7 @@ pub(crate) fn each_run_is_accounted()
 pub(crate) fn each_run_follows_goals()
     ensures { EachRunFollowsGoals }
 {
-    damon_control::texts_are_exactly_read();
-    damon_control::scripts_are_sound();
     trace_gen::generated_scripts_are_sound();
-    line_text::number_is_decimal();
     tune_run::each_tuned_run_follows_its_goals();
 }
 

@@ -32,7 +32,7 @@ use crate::run::write_report;
 use crate::summary::make_summary;
 use crate::{Request, Run};
 use damon_admin::{contexts_are_apart, contexts_are_bound, voices_are_reports};
-use damon_control::{MAX_WORK, Script, read_script, texts_are_exactly_read};
+use damon_control::{MAX_WORK, Script, read_script};
 use damon_types::{Sink, Source};
 use journal_check::verify;
 use run_status::Status;
@@ -213,8 +213,6 @@ fn take_script<S: Source>(alloc: Global, source: &mut S) -> Result<Script, Statu
     ensures work { IfOk result (λ script.
         work_of script.setup.cap script.commands.list ≤ MAX_WORK) }
 {
-    // For its clause alone: what is read as a script is the text of that script.
-    texts_are_exactly_read();
     let bytes = read_all(alloc, source)?;
     let script = read_script(alloc, &bytes)?;
     Ok(script)

@@ -5,6 +5,6 @@ use Rattle.damon_app.proofs.laws.each_run_follows_goals.Goals as goal
 
 pub returns : goal.returns
 returns c = λ goals s said.
-    let within = said_goals c.number_is_decimal.ensures.only said.0 goals said.1 in
-    of_each_run (IsTunedRun goals) c.texts_are_exactly_read.ensures.texts c.scripts_are_sound.ensures.sound c.generated_scripts_are_sound.ensures
+    let within = said_goals said.0 goals said.1 in
+    of_each_run (IsTunedRun goals) c.generated_scripts_are_sound.ensures
     (λ s sound. c.each_tuned_run_follows_its_goals.ensures.runs goals s within sound) s

@@ -4,6 +4,6 @@ use Rattle.damon_app.proofs.laws.each_run_is_accounted.Goals as goal
 
 pub returns : goal.returns
 returns c = record {
-  runs = of_each_run IsReclaimedRun c.texts_are_exactly_read.ensures.texts c.scripts_are_sound.ensures.sound c.generated_scripts_are_sound.ensures c.each_reclaimed_run_is_accounted.ensures.runs;
+  runs = of_each_run IsReclaimedRun c.generated_scripts_are_sound.ensures c.each_reclaimed_run_is_accounted.ensures.runs;
   figures = c.each_reclaimed_run_is_accounted.ensures.figures;
 }

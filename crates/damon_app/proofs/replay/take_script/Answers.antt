@@ -2,6 +2,7 @@ use Rattle.std.proofs.Common.{◌≡◌, Err, Ok, ap, sym, ◌∙◌, refl, subs
 use Rattle.std.proofs.lemmas.Result.{err_from_is_err_and}
 use Rattle.damon_control.specs.Script.{script_of}
 use Rattle.damon_control.specs.ScriptView.{said_by}
+use Rattle.damon_control.proofs.Lemmas.{texts_read}
 use Rattle.text_io.specs.declared.input.TheConstants.{INPUT_LIMIT}
 use Rattle.damon_app.specs.Answers.{ends_of}
 use Rattle.damon_app.specs.declared.request.Request.TheVariants.{Report}
@@ -39,7 +40,7 @@ returns-clause-taken g c =
       all = read.all;
       end = read.end;
       few = read.limit;
-      wanted = (said_by c.in_ok-script.script, (c.texts_are_exactly_read.ensures.texts _ _).0 spells, refl);
+      wanted = (said_by c.in_ok-script.script, (texts_read _ _).0 spells, refl);
       status = ap status_of_spelled spells;
       reads = EndsAtFault-not (λ e. cc e) (λ no. no) read.reads;
       calls = read.calls;
