@@ -1,7 +1,5 @@
 -- The lines of receipts, one after another.
-use Rattle.std.proofs.Common.{◌≡◌, ◌<◌, ℕ, suc, Some, None, IfSome, List, [], ◌∷◌, length, refl, arith}
-use Rattle.std.specs.Prelude.{Option}
-use Rattle.std.specs.Borrow.{Bor}
+use Rattle.std.proofs.Common.{◌≡◌, ◌<◌, ℕ, List, [], ◌∷◌, length, refl, arith}
 use Rattle.damon_types.specs.declared.space.Target.{Target}
 use Rattle.line_text.specs.Parts.{parts}
 use Rattle.line_text.proofs.Lemmas.{parts_some}
@@ -16,13 +14,3 @@ line_says space line rest = by (parts 10 rest) (parts_some 10 rest)
     by : (lines : List (List ℕ)) → 0 < length lines → seen_ahead space (line ∷ lines) ≡ in_front_of (seen_ahead space lines) (seen_line space line)
     by [] some = absurd (omega (arith, some))
     by (next ∷ lines) some = refl
-
--- how much is left of a text: each line that is taken makes it less
-abbrev pub size_left : Option (Bor (List ℕ)) → ℕ
-size_left None = 0
-size_left (Some text) = suc (length text.now)
-
--- what follows a line is less than what the line was taken from
-pub size_left_less : (rest more : Option (Bor (List ℕ))) (text : Bor (List ℕ)) → rest ≡ Some text → IfSome more (λ m. length m.now < length text.now) → size_left more < size_left rest
-size_left_less rest None text is shorter = rw is (omega arith)
-size_left_less rest (Some m) text is shorter = rw is (omega (arith, shorter))

@@ -7,5 +7,5 @@ pub use Rattle.script_lines.proofs.SpellCommands.{command_line-Ok, part_line-Ok,
 pub use Rattle.script_lines.proofs.SpellLines.{attrs_in-Ok, attrs_line-Ok, cap_line-Ok, limited-bounds, one_target-Ok, passes_line-Ok, range_in-Ok, range_line-Ok, seed_line-Ok, target_line-Ok, unit_line-Ok}
 pub use Rattle.script_lines.proofs.SpellSchemes.{scheme_line-Ok}
 pub use Rattle.script_lines.proofs.SpellWords.{alone-Ok}
-pub use Rattle.script_lines.proofs.WordLemmas.{begins_other}
+pub use Rattle.script_lines.proofs.WordLemmas.{begins_other, size_left, size_left_less}
 pub use Rattle.script_lines.proofs.WrittenSchemes.{change_empties, change_gives}

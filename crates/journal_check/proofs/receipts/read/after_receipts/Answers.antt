@@ -1,4 +1,4 @@
-use Rattle.journal_check.proofs.SeenTaken.{size_left_less}
+use Rattle.script_lines.proofs.Lemmas.{size_left_less}
 use Rattle.journal_check.proofs.receipts.read.after_receipts.Goals as goal
 
 pub lines-smaller : goal.lines-smaller

@@ -1,8 +1,8 @@
 use Rattle.std.proofs.Common.{◌≡◌, ◌≤◌, suc, length}
 use Rattle.std.specs.Option.{option_copied}
 use Rattle.line_text.specs.Parts.{parts, parts_left}
+use Rattle.script_lines.proofs.Lemmas.{size_left}
 use Rattle.journal_check.specs.Ahead.{after_receipts}
-use Rattle.journal_check.proofs.SeenTaken.{size_left}
 use Rattle.journal_check.proofs.receipts.read.after_receipts.Given as goal
 
 abbrev pub invariant-lines : goal.invariant-lines
