@@ -33,7 +33,7 @@ fn leading_page<'a>(space: &Space, text: &'a [u8]) -> Option<(u32, &'a [u8])>
     ensures below { IfSome result (λ x. x.0 < pages_of space.now) }
 {
     let (target, words) = leading_field(text, b" ", u64::from(u32::MAX))?;
-    let (addr, rest) = leading_address(strip(words, b" ")?)?;
+    let (addr, rest) = spaced_address(words)?;
     let page = space.page_of(target as u32, addr)?;
     let place = space.addr_near(target as u32, page);
     if u64::from(place.target) == target && place.addr == addr {
@@ -51,4 +51,13 @@ fn leading_field<'a>(text: &'a [u8], name: &[u8], most: u64) -> Option<(u64, &'a
     let words = strip(text, name)?;
     let (number, rest) = leading_number(words, most)?;
     Some((number, rest))
+}
+
+// The address at the front of a text, after a space, and the text after it.
+fn spaced_address(text: &[u8]) -> Option<(u64, &[u8])>
+    ensures { IfSome result (λ x. text.now ≡ codes " " ++ (spelled_address x.0 ++ x.1.now)) }
+{
+    let words = strip(text, b" ")?;
+    let (addr, rest) = leading_address(words)?;
+    Some((addr, rest))
 }
