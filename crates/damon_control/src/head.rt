@@ -178,7 +178,6 @@ fn take_range(
 }
 
 // Reads the lines of the schemes.
-#[tactic(auto, using(crate::proofs::SetupChecks::one_more))]
 pub fn read_slots(
     alloc: Global,
     lines: &mut Lines,
