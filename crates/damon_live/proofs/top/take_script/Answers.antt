@@ -53,4 +53,4 @@ returns-clause-taken g c =
     }
 
 pub returns-clause-limits : goal.returns-clause-limits
-returns-clause-limits g c = (live_scripts_sound _ _ c.in_ok-script.ensures.script).limits
+returns-clause-limits g c = (live_scripts_sound c.in_ok-bytes.bytes.items (live_said c.in_ok-script.script) (ap live_of (sym c.deref.ensures.value) ∙ c.in_ok-script.ensures.script)).limits
