@@ -24,13 +24,6 @@ abbrev pub leads : (g : Grammar) → Place g → List (List ℕ) → Result (Pla
 leads g place [] = Ok place
 leads g place (line ∷ lines) = place_after g place line >>= λ next. leads g next lines
 
--- more lines go on from where the first ones lead
-pub leads-append : (g : Grammar) (place middle : Place g) (front back : List (List ℕ)) → leads g place front ≡ Ok middle → leads g place (front ++ back) ≡ leads g middle back
-leads-append g place middle [] back e = let is : place ≡ middle = cc in ap (λ p. leads g p back) is
-leads-append g place middle (line ∷ front) back e =
-    let next = bind-Ok (place_after g place line) (λ p. leads g p front) middle e in
-    rw next.1 (leads-append g next.0 middle front back next.2)
-
 -- one line, and then others
 pub leads-line : (g : Grammar) (place next : Place g) (line : List ℕ) (lines : List (List ℕ)) → place_after g place line ≡ Ok next → leads g place (line ∷ lines) ≡ leads g next lines
 leads-line g place next line lines e = rw e refl

@@ -3,7 +3,6 @@ mod LiveTouch
 mod Steps
 mod PartLemmas
 mod TouchLemmas
-mod PlaceLemmas
 mod Leads
 mod OneSpelling
 mod SpaceLimits

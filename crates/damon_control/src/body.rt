@@ -1,5 +1,4 @@
-ghost use Rattle.std.specs.Prelude.{◌≡◌, ℕ, All, IfSome, ◌≤◌, ◌<◌, ◌+◌, ◌-◌, ◌^◌, IfOk, OnOk, Ok, Err, Some, None, [], length, nat_le};
-ghost use Rattle.std.specs.Option.{ok_or};
+ghost use Rattle.std.specs.Prelude.{◌≡◌, ℕ, IfSome, ◌≤◌, ◌<◌, ◌+◌, ◌-◌, IfOk, OnOk, Ok, Err, Some, None, length, nat_le};
 ghost use Rattle.damon_types.specs.Space.{pages_of};
 ghost use Rattle.live_commit.specs.Commit.{commit_value};
 ghost use Rattle.live_commit.specs.SetupView.{value_of};

@@ -1,5 +1,5 @@
 // The lines of controllers.
-ghost use Rattle.std.specs.Prelude.{◌≡◌, ℕ, List, [], ◌∷◌, ◌++◌, ◌≤◌, ◌<◌, ◌+◌, ◌||◌, true, false, Ok, Err, IfOk, IfErr, OnOk, codes, length, map};
+ghost use Rattle.std.specs.Prelude.{◌≡◌, List, [], ◌∷◌, ◌++◌, ◌≤◌, ◌<◌, ◌+◌, ◌||◌, true, false, Ok, Err, IfOk, IfErr, OnOk, codes, length, map};
 ghost use Rattle.damon_control.specs.declared.grammar.Grammar.TheVariants.{OfLive as of_live};
 ghost use Rattle.damon_control.specs.Left.{FaultOf, IsShort, MovesTo, first_begins, reads_left};
 ghost use Rattle.damon_control.specs.Live.{CallValue, LiveValue as live, call_within, count_all};

@@ -1,4 +1,4 @@
-ghost use Rattle.std.specs.Prelude.{◌≡◌, ◌≤◌, ◌<◌, ◌+◌, ◌-◌, ◌^◌, IfOk, IfSome, OnErr, OnOk, Ok, Err, Some, None, option_map, length, Result};
+ghost use Rattle.std.specs.Prelude.{◌≡◌, ◌≤◌, ◌<◌, ◌-◌, ◌^◌, IfOk, IfSome, OnErr, OnOk, Ok, Some, None, option_map, length, Result};
 ghost use Rattle.live_commit.specs.Commit.{commit_value};
 ghost use Rattle.script_lines.specs.Body.{no_commit, with_part, with_range};
 ghost use Rattle.damon_control.specs.declared.grammar.Grammar.{Grammar as grammar};

@@ -1,4 +1,4 @@
-ghost use Rattle.std.specs.Prelude.{◌≡◌, ◌≤◌, ◌<◌, ◌^◌, Ok, Err, Some, true, false, IfOk, IfErr, OnOk, is_ok, List, [], ◌∷◌, ◌++◌, ◌+◌, ◌-◌, codes, length};
+ghost use Rattle.std.specs.Prelude.{◌≡◌, ◌≤◌, ◌<◌, ◌^◌, Ok, Err, true, false, IfOk, IfErr, OnOk, is_ok, List, [], ◌-◌, codes, length};
 ghost use Rattle.damon_types.specs.declared.range.RangeSpec.{RangeSpec as spec};
 ghost use Rattle.damon_types.specs.declared.space.Target.{Target as target};
 ghost use Rattle.damon_types.specs.Space.{checked};

@@ -1,5 +1,4 @@
-ghost use Rattle.std.specs.Prelude.{◌≡◌, ℕ, List, [], ◌∷◌, ◌++◌, ◌≤◌, ◌<◌, ◌+◌, ◌-◌, All, true, false, Ok, Err, IfOk, IfErr, IfNone, IfSome, OnOk, codes, ◌||◌, length, nat_le, nat_lt, map, Result};
-ghost use Rattle.std.specs.List.{range_with_len};
+ghost use Rattle.std.specs.Prelude.{◌≡◌, ℕ, List, [], ◌∷◌, ◌++◌, ◌≤◌, ◌<◌, ◌+◌, ◌-◌, All, true, false, Ok, Err, IfOk, IfErr, IfNone, IfSome, OnOk, codes, ◌||◌, length, Result};
 ghost use Rattle.damon_types.specs.declared.range.RangeSpec.{RangeSpec as spec};
 ghost use Rattle.damon_types.specs.declared.scheme.SlotChange.{SlotChange as change};
 ghost use Rattle.damon_types.specs.declared.space.Target.{Target as target};

@@ -1,5 +1,5 @@
 // A whole run in one thread.
-ghost use Rattle.std.specs.Prelude.{◌≡◌, ◌*◌, ◌≤◌, [], IfOk, length, map, vec_len};
+ghost use Rattle.std.specs.Prelude.{◌≡◌, ◌*◌, ◌≤◌, [], IfOk, length, vec_len};
 ghost use Rattle.damon_types.specs.Space.{pages_of};
 ghost use Rattle.damon_core.specs.Stands.{Stands};
 ghost use Rattle.damon_control.specs.LiveText.{KeepsLimits};

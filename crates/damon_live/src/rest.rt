@@ -1,7 +1,6 @@
 // The passes and the calls that are left.
 ghost use Rattle.std.specs.Prelude.{◌≡◌, ℕ, ◌+◌, ◌≤◌, ◌<◌};
 ghost use Rattle.live_commit.specs.declared.phase.Phase.TheVariants.{Idle};
-ghost use Rattle.run_journal.specs.Phases.{passes_open};
 ghost use Rattle.run_journal.specs.Replay.{replay};
 ghost use Rattle.damon_live.specs.Kept.{calls_asked, calls_made};
 ghost use Rattle.damon_live.specs.Machine.{passes_made};

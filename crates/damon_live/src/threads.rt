@@ -1,5 +1,5 @@
 // A whole run in threads.
-ghost use Rattle.std.specs.Prelude.{◌≡◌, ◌*◌, ◌≤◌, [], IfOk, length, vec_len};
+ghost use Rattle.std.specs.Prelude.{◌≡◌, ◌*◌, ◌≤◌, [], IfOk, length};
 ghost use Rattle.damon_types.specs.Space.{pages_of};
 ghost use Rattle.damon_core.specs.Stands.{Stands};
 ghost use Rattle.damon_control.specs.LiveText.{KeepsLimits};
@@ -7,7 +7,6 @@ ghost use Rattle.damon_control.specs.LiveView.{live_said};
 ghost use Rattle.run_journal.specs.Lawful.{receipts_said};
 ghost use Rattle.run_journal.specs.Replay.{check_sizes, replay};
 ghost use Rattle.damon_live.specs.Whole.{AreInSpace, IsWholeRun, TracesAreInSpace};
-ghost use Rattle.damon_live.specs.Work.{AreNumbered};
 ghost use Rattle.damon_live.specs.declared.top.TheConstants.{MAX_RESULTS};
 
 use crate::begin::{Begun, begin_run};

@@ -1,5 +1,5 @@
 // A journal text that is carried out from one aggregation to the next.
-ghost use Rattle.std.specs.Prelude.{◌≡◌, ◌≢◌, ◌+◌, ◌≤◌, ◌<◌, List, None, drop, length, take, true, false, IfErr, IfOk, IfSome};
+ghost use Rattle.std.specs.Prelude.{◌≡◌, ◌≢◌, ◌+◌, ◌≤◌, ◌<◌, List, None, length, true, false, IfErr, IfOk, IfSome};
 ghost use Rattle.live_commit.specs.declared.phase.Phase.TheVariants.{Idle, Armed, Due, Void as VoidPhase};
 ghost use Rattle.damon_core.specs.State.{State};
 ghost use Rattle.damon_control.specs.Live.{LiveValue};

@@ -1,5 +1,5 @@
 // Handing over a text, and the status where that fails.
-ghost use Rattle.std.specs.Prelude.{◌≡◌, ℕ, List, IfErr, IsErrOf, OnOk};
+ghost use Rattle.std.specs.Prelude.{ℕ, List, IfErr, IsErrOf, OnOk};
 ghost use Rattle.std.specs.Io.KnownBytes.{Appends};
 ghost use Rattle.damon_types.specs.Calls.{EndsAtFault};
 ghost use Rattle.text_io.specs.Taken.{WritesPart};

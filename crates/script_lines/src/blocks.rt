@@ -1,6 +1,6 @@
 // The lines of a live script that a script does not have: the passes, the first lines of blocks, and
 // the touches of a worker.
-ghost use Rattle.std.specs.Prelude.{◌≡◌, ◌≤◌, ◌<◌, ◌+◌, ◌-◌, IfOk, OnOk, length};
+ghost use Rattle.std.specs.Prelude.{◌≡◌, ◌≤◌, ◌<◌, ◌+◌, ◌-◌, IfOk, OnOk};
 ghost use Rattle.damon_types.specs.Space.{pages_of};
 ghost use Rattle.script_lines.specs.Blocks.{block_line, page_list, pages_said, passes_line, touched, touched_of, touches_within, touching};
 ghost use Rattle.script_lines.specs.Command.{command_said, command_value};

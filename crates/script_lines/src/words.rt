@@ -1,4 +1,4 @@
-ghost use Rattle.std.specs.Prelude.{◌≡◌, ℕ, ◌^◌, ◌-◌, List};
+ghost use Rattle.std.specs.Prelude.{◌≡◌, ℕ, ◌-◌, List};
 ghost use Rattle.std.specs.Option.{ok_or};
 ghost use Rattle.line_text.specs.Parts.{one_of, two_of, three_of, four_of};
 ghost use Rattle.script_lines.specs.declared.kind.ScriptKind.TheVariants.{Form};

@@ -3,7 +3,6 @@ ghost use Rattle.std.specs.Prelude.{◌≡◌, ℕ, [], ◌∷◌, ◌++◌, Lis
 ghost use Rattle.std.specs.List.{AllByRecursion};
 ghost use Rattle.damon_core.specs.After.{after};
 ghost use Rattle.damon_core.specs.Event.{Event, aggregate as aggregate_event, commit as commit_event};
-ghost use Rattle.damon_core.specs.Reached.{Reached};
 ghost use Rattle.damon_core.specs.Stands.{Stands};
 ghost use Rattle.damon_core.specs.State.{State};
 ghost use Rattle.damon_world.specs.Touches.{touches};

@@ -1,12 +1,11 @@
 // The set slots in a show in JSON, made by `serde_json`.
-ghost use Rattle.std.specs.Prelude.{◌≡◌, ◌≤◌, ◌++◌, ℕ, List, [], ◌∷◌, length, slice_index_or, IfOk, OnOk};
-ghost use Rattle.std.specs.Option.{option_map_or};
+ghost use Rattle.std.specs.Prelude.{◌≡◌, ◌≤◌, ◌++◌, List, length, slice_index_or, IfOk, OnOk};
 ghost use Rattle.serde.specs.Event.{Log as log};
 ghost use Rattle.serde_json.specs.Data.{Data};
 ghost use Rattle.serde_json.specs.Events.{SendsItems, SendsValue};
 ghost use Rattle.serde_json.specs.View.{items_of};
 ghost use Rattle.serde_json.specs.Written.{compact_text};
-ghost use Rattle.scheme_engine.specs.Slots.{empty_slot, slot_view};
+ghost use Rattle.scheme_engine.specs.Slots.{empty_slot};
 ghost use Rattle.snapshot_print.specs.Json.{list_of, set_slot_json, set_slots_json, slot_json};
 ghost use Rattle.line_text.specs.Appended.{KeepsFront};
 

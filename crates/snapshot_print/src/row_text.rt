@@ -1,4 +1,4 @@
-ghost use Rattle.std.specs.Prelude.{◌≡◌, ◌+◌, ◌*◌, ◌≤◌, ◌++◌, length, drop, OnOk};
+ghost use Rattle.std.specs.Prelude.{◌≡◌, ◌+◌, ◌≤◌, ◌++◌, length, drop, OnOk};
 ghost use Rattle.std.specs.List.{AllByRecursion};
 ghost use Rattle.damon_types.specs.Space.{pages_of};
 ghost use Rattle.snapshot_print.specs.Fields.{pages_part};

@@ -38,14 +38,6 @@ EndsAtFault-went {a} {b} is = record {
   late = λ zero. ap (λ (c : Calls). c.late) is ∙ rw zero refl;
 }
 
--- a call that failed
-pub EndsAtFault-failed : {P : Type 0} {a b : Calls} → P → b ≡ after_call true a → EndsAtFault P a b
-EndsAtFault-failed {P} {a} {b} p is = record {
-  one = λ _. ap (λ (c : Calls). c.failed) is;
-  none = λ not. absurd (not p);
-  late = λ zero. ap (λ (c : Calls). c.late) is ∙ rw zero refl;
-}
-
 -- a result that is an error of a kind is one that has that error
 pub EndsAtFault-error : {T E : Type 0} {x y : E} {a b : Calls} → EndsAtFault (IsErrOf {T = T} {E = E} (Err x) y) a b → EndsAtFault (x ≡ y) a b
 EndsAtFault-error {T} {E} {x} {y} = EndsAtFault-as (λ e. ap (λ z. Err z) e) (λ e. cc e)

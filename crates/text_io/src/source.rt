@@ -1,5 +1,5 @@
 // Handing over a text that is made a piece at a time.
-ghost use Rattle.std.specs.Prelude.{◌≡◌, ℕ, ◌<◌, ◌++◌, List, Ok, IsErrOf, OnOk, vec_len};
+ghost use Rattle.std.specs.Prelude.{◌≡◌, ℕ, ◌<◌, List, Ok, IsErrOf, OnOk, vec_len};
 ghost use Rattle.std.specs.Io.KnownBytes.{Appends};
 ghost use Rattle.damon_types.specs.Calls.{EndsAtFault};
 ghost use Rattle.text_io.specs.Taken.{WritesPart};

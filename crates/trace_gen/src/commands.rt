@@ -1,4 +1,4 @@
-ghost use Rattle.std.specs.Prelude.{◌≡◌, ◌≤◌, ◌<◌, ◌+◌, ◌*◌, ◌%◌, ◌^◌, ◌++◌, ◌∷◌, [], length, IfOk, OnOk};
+ghost use Rattle.std.specs.Prelude.{◌≡◌, ◌≤◌, ◌<◌, ◌+◌, ◌*◌, ◌%◌, ◌^◌, ◌++◌, length, IfOk, OnOk};
 ghost use Rattle.script_lines.specs.Command.{Touch};
 ghost use Rattle.trace_gen.specs.Gen.{access_of, block, blocks, strides, sweep, touches, zone_of};
 

@@ -1,4 +1,4 @@
-ghost use Rattle.std.specs.Prelude.{◌≡◌, ◌≤◌, List, [], true, IfOk, OnErr, OnOk, length, ℕ};
+ghost use Rattle.std.specs.Prelude.{◌≡◌, ◌≤◌, [], true, IfOk, OnErr, OnOk, length};
 ghost use Rattle.rand_core.specs.Steps.{stream_of, steps_u32};
 ghost use Rattle.rand_pcg.specs.Pcg.{pcg32};
 ghost use Rattle.damon_types.specs.Space.{pages_of};
@@ -8,7 +8,7 @@ ghost use Rattle.damon_control.specs.ScriptView.{said_by};
 ghost use Rattle.line_text.specs.Appended.{KeepsFront};
 ghost use Rattle.script_run.specs.Kept.{StandSomewhere};
 ghost use Rattle.script_run.specs.Parts.{is_done};
-ghost use Rattle.script_run.specs.Played.{BeginsWith, HasPlayed, PlaysNextWith};
+ghost use Rattle.script_run.specs.Played.{HasPlayed, PlaysNextWith};
 
 use super::{Player, make_player};
 use crate::callbacks::{Callbacks, NoCallbacks};
