@@ -1,30 +1,19 @@
 -- A live script, written out: one worker that touches the first page twice, and one controller that shows. Then texts that
 -- are read as others, or rejected.
-use Rattle.std.proofs.Common.{◌≡◌, inl, lit<, arith, ◌∷◌, [], ◌++◌, ℕ, List, codes, Some, None, Ok, Err, refl}
-use Rattle.std.specs.Fmt.{digits}
+use Rattle.std.proofs.Common.{◌≡◌, ◌∷◌, [], ◌++◌, ℕ, List, codes, Some, None, Ok, Err, refl}
 use Rattle.damon_types.specs.declared.scheme.Version.TheVariants.{One, Two}
-use Rattle.damon_types.specs.declared.space.Target.{Target}
 use Rattle.live_commit.specs.Setup.{SetupValue}
 use Rattle.script_lines.specs.declared.kind.ScriptKind.{ScriptKind}
 use Rattle.script_lines.specs.declared.kind.ScriptKind.TheVariants.{Form, Header, Limit, Outside, Word}
-use Rattle.script_lines.specs.Laws.{IsTouch}
 use Rattle.damon_control.specs.Live.{CommitCall, LiveValue, ShowCall}
-use Rattle.damon_control.specs.LiveText.{IsLiveText, KeepsLimits, SayController, SayWorker, SaysPages}
+use Rattle.damon_control.specs.LiveText.{IsLiveText}
 use Rattle.damon_control.specs.Script.{live_of}
-use Rattle.damon_control.specs.Text.{SaySetup}
-use Rattle.std.proofs.lemmas.List.Elements.{All-nil}
-use Rattle.script_lines.specs.Fits.{FitsChange}
-use Rattle.std.specs.Prelude.{IsSome, IfSome}
-use Rattle.damon_types.specs.Scheme.{checked_in}
-use Rattle.damon_control.proofs.SpaceLimits.{checked-IsSpace}
-
-abbrev space : List Target
-space = record { base = 65536; pages = 3 } ∷ []
+use Rattle.damon_control.proofs.Says.{live_of-IsLiveText}
 
 abbrev setup : SetupValue
 setup = record {
   version = One;
-  space = space;
+  space = record { base = 65536; pages = 3 } ∷ [];
   unit = 1;
   cap = 8;
   attrs = record { min = 3; max = 8; aggr = 5 };
@@ -35,64 +24,6 @@ setup = record {
 abbrev said : LiveValue
 said = record { seed = 42; setup = setup; passes = 1; workers = (0 ∷ 0 ∷ []) ∷ []; controllers = (ShowCall ∷ []) ∷ [] }
 
-abbrev setup_text : List (List ℕ)
-setup_text =
-    codes "seed 42" ∷ codes "unit 1" ∷ codes "cap 8" ∷ codes "attrs 3 8 5" ∷ codes "target 0x10000 3" ∷ codes "range 0 0x10000 0x13000 0" ∷ []
-
-says_setup : SaySetup setup_text 42 setup
-unfolding digits
-says_setup = record {
-  specs = record { target = 0; from = 65536; to = 77824; class = 0 } ∷ [];
-  schemes = [];
-  spelled = refl;
-  seed_fits = lit< tt;
-  space = checked-IsSpace space refl;
-  unit_some = omega arith;
-  unit_most = omega arith;
-  cap_some = omega arith;
-  cap_most = omega arith;
-  attrs = record { min = omega arith; max = omega arith; aggr_some = omega arith; aggr_most = omega arith };
-  max_cap = omega arith;
-  ranges = refl;
-  some_range = omega arith;
-  few_ranges = omega arith;
-  watched = refl;
-  apart = λ i j d less below. absurd (omega (arith, below));
-  set = All-nil (λ c. IsSome c.scheme);
-  accepted = All-nil (λ c. IfSome c.scheme (λ s. checked_in One c.slot s ≡ Ok tt));
-  changes = All-nil FitsChange;
-  give = tt;
-}
-
-touches_first : IsTouch space (codes "touch 0 0x10000") 0
-unfolding digits
-touches_first = record { target = 0; addr = 65536; spelled = refl; target_fits = lit< tt; addr_fits = lit< tt; holds = refl }
-
-says_first : SaysPages space (codes "touch 0 0x10000") (0 ∷ [])
-says_first = inl (0, refl, touches_first)
-
-worker_touches_twice : SayWorker space (codes "worker" ∷ codes "touch 0 0x10000" ∷ codes "touch 0 0x10000" ∷ []) (0 ∷ 0 ∷ [])
-worker_touches_twice = record {
-  touches = codes "touch 0 0x10000" ∷ codes "touch 0 0x10000" ∷ [];
-  pages = (0 ∷ []) ∷ (0 ∷ []) ∷ [];
-  spelled = refl;
-  each = (says_first, (says_first, tt));
-  joined = refl;
-}
-
-controller_shows : SayController One (codes "controller" ∷ codes "show" ∷ []) (ShowCall ∷ [])
-controller_shows = record { groups = (codes "show" ∷ []) ∷ []; spelled = refl; each = (refl, tt) }
-
-limits_are_kept : KeepsLimits said
-limits_are_kept = record {
-  some_pass = omega arith;
-  passes = omega arith;
-  workers = omega arith;
-  controllers = omega arith;
-  touches = omega arith;
-  calls = omega arith;
-}
-
 -- the text of the setup above, and more text after it
 abbrev setup_before : List ℕ → List ℕ
 setup_before text = codes "damon live 1\nseed 42\nunit 1\ncap 8\nattrs 3 8 5\ntarget 0x10000 3\nrange 0 0x10000 0x13000 0\n" ++ text
@@ -100,21 +31,11 @@ setup_before text = codes "damon live 1\nseed 42\nunit 1\ncap 8\nattrs 3 8 5\nta
 abbrev whole_text : List ℕ
 whole_text = setup_before (codes "passes 1\nworker\ntouch 0 0x10000\ntouch 0 0x10000\ncontroller\nshow\nend\n")
 
-text_says_it : IsLiveText whole_text said
-unfolding digits
-text_says_it = record {
-  setup = setup_text;
-  workers = (codes "worker" ∷ codes "touch 0 0x10000" ∷ codes "touch 0 0x10000" ∷ []) ∷ [];
-  controllers = (codes "controller" ∷ codes "show" ∷ []) ∷ [];
-  spelled = refl;
-  says_setup = says_setup;
-  say_workers = (worker_touches_twice, tt);
-  say_controllers = (controller_shows, tt);
-  limits = limits_are_kept;
-}
-
 text_is_read : live_of whole_text ≡ Ok said
 text_is_read = refl
+
+text_says_it : IsLiveText whole_text said
+text_says_it = live_of-IsLiveText whole_text said text_is_read
 
 -- ---- other texts
 

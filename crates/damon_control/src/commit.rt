@@ -9,7 +9,7 @@ use crate::ReadFail;
 use crate::lines::Lines;
 use damon_types::{RangeSpec, RangeSpecs, Version};
 use live_commit::Commit;
-use script_lines::{Part, alone, first_word, read_part, same_word, wants_slot};
+use script_lines::{Part, alone, first_word, leading_range, read_part, same_word, wants_slot};
 use std::alloc::{AllocError, Global};
 
 /// The commit of which no part is read.
@@ -66,7 +66,9 @@ fn read_ranges(alloc: Global, lines: &mut Lines, commit: &mut Commit) -> Result<
     if !wants_slot(commit) {
         return Ok(());
     }
-    'lines: while let Some(range) = lines.take_range() {
+    'lines: while let Some((range, rest)) = leading_range(lines.rest) {
+        lines.rest = rest;
+        lines.taken += 1;
         add_range(alloc, &mut commit.ranges, range)?;
     }
     Ok(())

@@ -1,10 +1,8 @@
-ghost use Rattle.std.specs.Prelude.{ℕ, List, [], ◌∷◌, ◌++◌, ◌≡◌, ◌+◌, ◌<◌, true, length, IfOk, IfErr, IfNone, IfSome, OnOk, Ok, Err};
+ghost use Rattle.std.specs.Prelude.{ℕ, List, [], ◌∷◌, ◌++◌, ◌≡◌, ◌+◌, ◌<◌, length, IfOk, IfErr, IfNone, IfSome, OnOk, Ok, Err};
 ghost use Rattle.damon_types.specs.Space.{pages_of};
-ghost use Rattle.live_commit.specs.Commit.{CommitValue as commit_said};
-ghost use Rattle.script_lines.specs.Body.{wants_slot, with_range};
 ghost use Rattle.script_lines.specs.Command.{Touch};
 ghost use Rattle.damon_control.specs.Left.{IsOpen, IsShort, first_begins, reads_command, reads_on, reads_left};
-ghost use Rattle.damon_control.specs.Script.{AtEnd, Body, InBody, InCommit, Place, Said, Within, at};
+ghost use Rattle.damon_control.specs.Script.{AtEnd, Body, InBody, Place, Said, at};
 ghost use Rattle.damon_control.specs.declared.grammar.Grammar.{Grammar as grammar};
 ghost use Rattle.damon_control.specs.declared.grammar.Grammar.TheVariants.{OfLive as of_live, OfScript as of_script};
 ghost use Rattle.damon_control.specs.Live.{LiveValue as live};
@@ -12,9 +10,9 @@ ghost use Rattle.damon_control.specs.LiveView.{reads_touch, with_workers};
 ghost use Rattle.script_lines.specs.Words.{begins_with};
 
 use crate::ScriptFault;
-use damon_types::{RangeSpec, Space};
+use damon_types::Space;
 use line_text::split_line;
-use script_lines::{ScriptKind, first_word, leading_range, leading_touch, same_word};
+use script_lines::{ScriptKind, first_word, leading_touch, same_word};
 
 // A text that is read line by line.
 #[derive(Drop)]
@@ -51,17 +49,13 @@ impl<'a> Lines<'a> {
         ensures shorter { IfOk result (λ _. length self.new.rest.now < length self.old.rest.now) }
         ensures small { IsShort self.new }
     {
-        match split_line(self.rest) {
-            (line, Some(rest)) => {
-                self.rest = rest;
-                self.taken += 1;
-                Ok(line)
-            }
-            (_, None) => Err(ScriptFault {
-                line: self.taken + 1,
-                kind: ScriptKind::Cut,
-            }),
-        }
+        let (line, rest) = split_line(self.rest);
+        self.rest = rest.ok_or(ScriptFault {
+            line: self.taken + 1,
+            kind: ScriptKind::Cut,
+        })?;
+        self.taken += 1;
+        Ok(line)
     }
 
     // Takes the next line if it is a touch, and returns the page. Else nothing is taken. A touch is read by
@@ -87,28 +81,6 @@ impl<'a> Lines<'a> {
         self.rest = rest;
         self.taken += 1;
         Some(page)
-    }
-
-    // Takes the next line if it is a range, and returns it. Else nothing is taken. It is a part of a
-    // commit where a range may come.
-    pub fn take_range(&mut self) -> Option<RangeSpec>
-        requires { IsShort self.old }
-        ensures said { IfSome result (λ range.
-            (g : grammar) (b : Within g) (c : commit_said) → wants_slot c ≡ true →
-            reads_left g (InCommit b c) self.old
-            ≡ reads_left g (InCommit b (record c { ranges = with_range c.ranges range })) self.new) }
-        ensures taken { IfSome result (λ _. self.new.taken ≡ self.old.taken + 1) }
-        ensures shorter { IfSome result (λ _. length self.new.rest.now < length self.old.rest.now) }
-        ensures same { IfNone result ((g : grammar) (place : Place g) →
-            reads_left g place self.new ≡ reads_left g place self.old) }
-        ensures none_taken { IfNone result (self.new.taken ≡ self.old.taken) }
-        ensures as_long { IfNone result (length self.new.rest.now ≡ length self.old.rest.now) }
-        ensures small { IsShort self.new }
-    {
-        let (range, rest) = leading_range(self.rest)?;
-        self.rest = rest;
-        self.taken += 1;
-        Some(range)
     }
 
     // Turns the rejection of the line that was taken last into the fault of the text.

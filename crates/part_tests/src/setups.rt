@@ -1,9 +1,9 @@
 // Setups and the names of their faults.
 use damon_types::{
-    Action, Attrs, AttrsFault, Filters, Pattern, Prefer, Range, RangeSpec, Scheme, SchemeFault,
-    SlotChange, Space, Span, Target, Version, Weights,
+    Attrs, AttrsFault, Range, RangeSpec, SchemeFault, SlotChange, Space, Target, Version,
 };
 use live_commit::{Setup, SetupFault};
+use script_lines::read_scheme_line;
 use std::test::Fail;
 use target_ranges::RangeWhy;
 
@@ -17,49 +17,6 @@ const THREE: Attrs = Attrs {
     max: 3,
     aggr: 5,
 };
-
-// The bytes from one address to another.
-const fn spec(from: u64, to: u64) -> RangeSpec {
-    RangeSpec {
-        target: 0,
-        from,
-        to,
-        class: 7,
-    }
-}
-
-const fn span(low: u32, high: u32) -> Span {
-    Span { low, high }
-}
-
-// A slot gets a scheme for regions whose sizes lie in the span.
-fn set(slot: u8, size: Span) -> SlotChange {
-    let scheme = Scheme {
-        action: Action::Stat,
-        pattern: Pattern {
-            size,
-            count: span(0, 1),
-            age: span(0, 1),
-        },
-        quota: None,
-        weights: Weights {
-            size: 1,
-            count: 1,
-            age: 1,
-        },
-        prefer: Prefer::Hot,
-        marks: None,
-        filters: Filters::new(),
-    };
-    SlotChange {
-        slot,
-        scheme: Some(scheme),
-    }
-}
-
-const fn emptied(slot: u8) -> SlotChange {
-    SlotChange { slot, scheme: None }
-}
 
 #[test]
 fn messages_are_names(rt: HostRuntime) -> Result<(), Fail> {
@@ -103,8 +60,20 @@ fn messages_are_names(rt: HostRuntime) -> Result<(), Fail> {
 #[test]
 fn a_setup_is_made(rt: HostRuntime) -> Result<(), Fail> {
     let space = Space::new(rt.alloc(), &[TARGET])?;
-    let slots = [set(3, span(1, 2)), emptied(4)];
-    let specs = [spec(0x12000, 0x14000)];
+    let set = read_scheme_line(Version::One, &[], b"scheme 3 stat size=1,2")
+        .ok()
+        .ok_or("no scheme")?;
+    let emptied = SlotChange {
+        slot: 4,
+        scheme: None,
+    };
+    let slots = [set, emptied];
+    let specs = [RangeSpec {
+        target: 0,
+        from: 0x12000,
+        to: 0x14000,
+        class: 7,
+    }];
     let setup = Setup::new(rt.alloc(), Version::One, space, 2, 8, THREE, &specs, &slots)?;
     let range = Range {
         target: 0,

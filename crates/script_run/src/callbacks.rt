@@ -122,16 +122,16 @@ impl Callbacks for NoCallbacks {
     } };
 
     #[inline(always)]
-    fn after_touches(&mut self, _page: u32, _count: u32) {}
+    fn after_touches(&mut self, _: u32, _: u32) {}
 
     #[inline(always)]
     fn after_steps(&mut self) {}
 
     #[inline(always)]
-    fn after_aggregation(&mut self, _monitor: &Monitor) {}
+    fn after_aggregation(&mut self, _: &Monitor) {}
 
     #[inline(always)]
-    fn after_commit(&mut self, _commit: &Commit, _answer: &Result<Changed, CommitFault>) {}
+    fn after_commit(&mut self, _: &Commit, _: &Result<Changed, CommitFault>) {}
 
     #[inline(always)]
     fn next_commit(&mut self) -> Option<Commit> {
@@ -139,22 +139,12 @@ impl Callbacks for NoCallbacks {
     }
 
     #[inline(always)]
-    fn append_lines(
-        &self,
-        _alloc: Global,
-        _out: &mut Vec<u8>,
-        _monitor: &Monitor,
-    ) -> Result<(), AllocError> {
+    fn append_lines(&self, _: Global, _: &mut Vec<u8>, _: &Monitor) -> Result<(), AllocError> {
         Ok(())
     }
 
     #[inline(always)]
-    fn append_end(
-        &self,
-        _alloc: Global,
-        _out: &mut Vec<u8>,
-        _monitor: &Monitor,
-    ) -> Result<(), AllocError> {
+    fn append_end(&self, _: Global, _: &mut Vec<u8>, _: &Monitor) -> Result<(), AllocError> {
         Ok(())
     }
 }

@@ -108,21 +108,11 @@ impl<N: Named> Callbacks for TunedQuotas<N> {
         Some(change_alone(change))
     }
 
-    fn append_lines(
-        &self,
-        _alloc: Global,
-        _out: &mut Vec<u8>,
-        _monitor: &Monitor,
-    ) -> Result<(), AllocError> {
+    fn append_lines(&self, _: Global, _: &mut Vec<u8>, _: &Monitor) -> Result<(), AllocError> {
         Ok(())
     }
 
-    fn append_end(
-        &self,
-        _alloc: Global,
-        out: &mut Vec<u8>,
-        _monitor: &Monitor,
-    ) -> Result<(), AllocError> {
+    fn append_end(&self, _: Global, out: &mut Vec<u8>, _: &Monitor) -> Result<(), AllocError> {
         append_tuned(out, &self.tuner)
     }
 }

@@ -23,7 +23,7 @@ use damon_types::Version;
 use journal_text::without_end;
 use live_commit::{Commit, Phase};
 use run_journal::VerifyFault;
-use script_lines::{Part, read_part, same_word, wants_slot};
+use script_lines::{Part, leading_range, read_part, same_word, wants_slot};
 use std::alloc::{AllocError, Global};
 
 // What the first line of a call says.
@@ -257,7 +257,9 @@ fn take_ranges(
     if !wants_slot(commit) {
         return Ok(());
     }
-    'lines: while let Some(range) = lines.take_range() {
+    'lines: while let Some((range, rest)) = leading_range(lines.rest) {
+        lines.rest = rest;
+        lines.taken += 1;
         add_part(alloc, commit, Part::Range(range))?;
     }
     Ok(())
