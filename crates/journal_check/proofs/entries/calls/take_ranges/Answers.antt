@@ -18,22 +18,19 @@ add_part-requires c =
 
 pub lines-preserved : goal.lines-preserved
 lines-preserved c =
-    let text = c.lines.lines.rest.now in
-    let range = c.in-Some.range in
-    let rest = c.in-Some.rest.now in
     let n = c.lines.lines.taken + 1 in
     let commit = commit_value c.lines.commit in
     let added = c.in_ok-add_part.ensures.ok in
-    let begins : BeginsWithRange text range rest = record { whole = c.in-Some.ensures.line; fits = c.in-Some.ensures.fits } in
-    let less : length rest < length text = omega (arith, ap length begins.whole, length-append (spelled_range range) (10 ∷ rest)) in
+    let begins : BeginsWithRange c.lines.lines.rest.now c.in-Some.range c.in-Some.rest.now = record { whole = c.in-Some.ensures.line; fits = c.in-Some.ensures.fits } in
+    let less : length c.in-Some.rest.now < length c.lines.lines.rest.now = omega (arith, ap length begins.whole, length-append (spelled_range c.in-Some.range) (10 ∷ c.in-Some.rest.now)) in
     record {
       wanted = ap wants_slot added ∙ c.lines.invariant.wanted;
       said = λ v j k.
           c.lines.invariant.said v j k
-          ∙ range_said text range rest begins n v j k commit c.lines.invariant.wanted
-          ∙ ap (λ (cv : CommitValue). said_from (n + 1) (InBlock v j k cv) (parts 10 rest)) (sym added);
-      ahead = c.lines.invariant.ahead ∙ range_ahead text range rest begins;
-      few = subst (λ (cv : CommitValue). IfSome cv.ranges (λ rs. length rs ≤ n)) (sym added) (few_more c.lines.lines.taken commit (Range range) c.lines.invariant.few);
+          ∙ range_said _ _ _ begins n v j k commit c.lines.invariant.wanted
+          ∙ ap (λ (cv : CommitValue). said_from (n + 1) (InBlock v j k cv) (parts 10 c.in-Some.rest.now)) (sym added);
+      ahead = c.lines.invariant.ahead ∙ range_ahead _ _ _ begins;
+      few = subst (λ (cv : CommitValue). IfSome cv.ranges (λ rs. length rs ≤ n)) (sym added) (few_more c.lines.lines.taken commit (Range c.in-Some.range) c.lines.invariant.few);
       later = omega (arith, c.lines.invariant.later);
       shorter = omega (arith, c.lines.invariant.shorter, less);
       short = omega (arith, c.lines.invariant.short, less);
