@@ -14,8 +14,9 @@ use Rattle.run_journal.specs.Room.{nothing_said}
 use Rattle.journal_text.specs.Rules.{CallsInTurn, InTurn}
 use Rattle.run_journal.specs.Limits.{CanCall}
 use Rattle.run_journal.specs.Steps.{entry_steps, steps, steps_from}
+use Rattle.journal_text.specs.Spelled.{spelled_aggregate, spelled_prepare, spelled_void}
 use Rattle.journal_text.specs.Text.{entries_lines, entry_lines, journal_lines}
-use Rattle.journal_text.proofs.EntriesRead.{ReadsOn, aggregate_reads, call_reads, check_reads, left, prepare_reads, so_far, taken, void_reads}
+use Rattle.journal_text.proofs.EntriesRead.{ReadsOn, call_reads, check_reads, left, own_reads, said_aggregate, said_prepare, said_void, so_far, taken}
 use Rattle.journal_text.proofs.Leading.{leads_to}
 use Rattle.run_journal.proofs.Lemmas.{added-of, called_in, length-added, cases}
 use Rattle.journal_text.proofs.Turns.{counts-added, counts-at}
@@ -30,12 +31,13 @@ no_calls = [] ∷ [] ∷ [] ∷ [] ∷ []
 abbrev AreOf : LiveValue → List (List CallValue) → Type 0
 AreOf v lists = (c i : ℕ) (x : CallValue) → called_in lists c i ≡ Some x → call_at v c i ≡ Some x
 
-none_of : (v : LiveValue) → AreOf v no_calls
-none_of v zero i x is = absurd cc
-none_of v (suc zero) i x is = absurd cc
-none_of v (suc (suc zero)) i x is = absurd cc
-none_of v (suc (suc (suc zero))) i x is = absurd cc
-none_of v (suc (suc (suc (suc c)))) i x is = absurd cc
+-- a call of theirs is none
+pub none_called : (c i : ℕ) (x : CallValue) → called_in no_calls c i ≡ Some x → ⊥
+none_called zero i x is = cc
+none_called (suc zero) i x is = cc
+none_called (suc (suc zero)) i x is = cc
+none_called (suc (suc (suc zero))) i x is = cc
+none_called (suc (suc (suc (suc c)))) i x is = cc
 
 more_of : (v : LiveValue) (done : List (List CallValue)) (k : ℕ) (call : CallValue) → AreOf v done → call_at v k (length (slice_index_or done k [])) ≡ Some call → AreOf v (added_to k call done)
 more_of v done k call are there c i x is = ⊎_elim
@@ -64,10 +66,16 @@ record NextRead (v : LiveValue) (done : List (List CallValue)) (j : JournalValue
 -- an entry that fits is read, and after a call the indexes go on
 next_read : (v : LiveValue) → CanCall v → (done : List (List CallValue)) (j : JournalValue) (b : List Bool) (e : Entry) (es : List Entry) → length done ≡ 4 → IsJournalOf (so_far v done) j
     → EntryFits v (replay_with (so_far v done) j b) e → InTurn (map length done) (e ∷ es) → AreOf v done → NextRead v done j b e es
-next_read v can done j b (Prepare pass pos) es four is fits turn are = record { later = done; four = four; reads = prepare_reads v done j b pass pos is fits; turn = turn; are = are }
+next_read v can done j b (Prepare pass pos) es four is fits turn are =
+    let reads = own_reads v done j b (Prepare pass pos) (spelled_prepare pass pos) is fits refl refl (said_prepare (replay (so_far v done) j) pass pos fits.0 fits.1 fits.2) refl refl in
+    record { later = done; four = four; reads = reads; turn = turn; are = are }
 next_read v can done j b (Check pass) es four is fits turn are = record { later = done; four = four; reads = check_reads v done j b pass is fits; turn = turn; are = are }
-next_read v can done j b (Void pass) es four is fits turn are = record { later = done; four = four; reads = void_reads v done j b pass is fits; turn = turn; are = are }
-next_read v can done j b (Aggregate tick pos) es four is fits turn are = record { later = done; four = four; reads = aggregate_reads v done j b tick pos is fits; turn = turn; are = are }
+next_read v can done j b (Void pass) es four is fits turn are =
+    let reads = own_reads v done j b (Void pass) (spelled_void pass) is fits refl refl (said_void (replay (so_far v done) j) pass fits.0 fits.1) refl refl in
+    record { later = done; four = four; reads = reads; turn = turn; are = are }
+next_read v can done j b (Aggregate tick pos) es four is fits turn are =
+    let reads = own_reads v done j b (Aggregate tick pos) (spelled_aggregate tick pos) is fits refl refl (said_aggregate (replay (so_far v done) j) tick pos fits.0 fits.1 fits.2) refl refl in
+    record { later = done; four = four; reads = reads; turn = turn; are = are }
 next_read v can done j b (Call c i answer) es four is fits turn are =
     let call = fits.1.0 in
     let count : i ≡ length (slice_index_or done c []) = turn.1 ∙ counts-at done c in
@@ -144,7 +152,7 @@ pub record JournalIsRead (v : LiveValue) (j : JournalValue) : Type 0 where
 -- from the first entry to the last
 pub journal_read : (v : LiveValue) → CanCall v → (j : JournalValue) → IsJournalOf v j → CallsInTurn j.entries → JournalIsRead v j
 journal_read v can j is turn =
-    let all = all_read v can no_calls nothing_said j.bits j.entries refl (record { fit = tt; none_left = refl }) is.fit turn (none_of v) in
+    let all = all_read v can no_calls nothing_said j.bits j.entries refl (record { fit = tt; none_left = refl }) is.fit turn (λ c i x there. absurd (none_called c i x there)) in
     let bits : all.new.bits ≡ j.bits = sym (append-nil all.new.bits) ∙ ap (λ l. all.new.bits ++ l) (sym is.none_left) ∙ all.bits in
     let same : all.new ≡ j = λ i. record { entries = all.entries i; bits = bits i } in
     let state : (replay (so_far v all.later) all.new).state ≡ (replay v j).state = sym (ap (λ (r : Replayed). r.state) all.next) in

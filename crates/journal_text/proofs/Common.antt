@@ -1,5 +1,5 @@
 -- Steps that succeed, tests that pass, and lines without an LF.
-use Rattle.std.proofs.Common.{◌≡◌, ℕ, ◌&&◌, ◌||◌, Bool, true, false, List, [], ◌∷◌, ◌++◌, Some, None, Ok, Err, refl, sym, ap, ◌∙◌}
+use Rattle.std.proofs.Common.{◌≡◌, ℕ, ◌&&◌, ◌||◌, Bool, true, false, List, [], ◌∷◌, ◌++◌, Some, None, Ok, Err, refl, sym, ap, ◌∙◌, subst}
 use Rattle.std.proofs.lemmas.List.Elements.{All-append, All-cons, All-head, All-nil, All-tail}
 use Rattle.std.specs.Prelude.{All, Option, Result, option_and_then, option_map, if◌then◌else◌}
 use Rattle.std.specs.Cmp.Lexicographic.{bytes_decides, same_text}
@@ -15,11 +15,6 @@ use Rattle.script_lines.specs.Words.{same_word}
 pub both_are : (a b : Bool) → (a && b) ≡ true → (a ≡ true) × (b ≡ true)
 both_are true b e = (refl, e)
 both_are false b e = absurd cc
-
--- one of two tests passes
-pub or_true : {G : Type 0} (a b : Bool) → (a || b) ≡ true → (a ≡ true → G) → (b ≡ true → G) → G
-or_true true b e first second = first refl
-or_true false b e first second = second e
 
 -- where the second test passes, one of the two does
 pub or_second : (a b : Bool) → b ≡ true → (a || b) ≡ true
@@ -60,10 +55,15 @@ pub if_some : {A : Type 0} (test : Bool) (x y : A) → (if test then Some x else
 if_some true x y e = (refl, cc)
 if_some false x y e = absurd cc
 
--- a test lets something through, or another try succeeded
-pub if_other : {A G : Type 0} (test : Bool) (x y : A) (o : Option A) → (test ≡ true → x ≡ y → G) → (o ≡ Some y → G) → (if test then Some x else o) ≡ Some y → G
-if_other true x y o first second e = first refl cc
-if_other false x y o first second e = second e
+-- what holds behind a passed test holds of what it let through
+pub past : {A : Type 0} (P : A → Type 0) (test : Bool) (x y : A) → (test ≡ true → P x) → (if test then Some x else None) ≡ Some y → P y
+past P true x y holds e = let is : x ≡ y = cc in subst P is (holds refl)
+past P false x y holds e = absurd cc
+
+-- or of what another try gave
+pub past_or : {A : Type 0} (P : A → Type 0) (test : Bool) (x y : A) (o : Option A) → (test ≡ true → P x) → (o ≡ Some y → P y) → (if test then Some x else o) ≡ Some y → P y
+past_or P true x y o first second e = let is : x ≡ y = cc in subst P is (first refl)
+past_or P false x y o first second e = second e
 
 -- the same of a result
 pub if_ok : {A E : Type 0} (test : Bool) (why : E) (x y : A) → (if test then Ok x else Err why) ≡ Ok y → (test ≡ true) × (x ≡ y)

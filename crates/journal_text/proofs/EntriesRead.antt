@@ -2,6 +2,7 @@
 use Rattle.std.proofs.Common.{◌≡◌, ℕ, zero, suc, ◌+◌, ◌<◌, ◌&&◌, Bool, true, false, List, [], ◌∷◌, ◌++◌, codes, drop, length, map, take, Some, None, Ok, refl, sym, ap, ◌∙◌, append_assoc, length-take-le, take-take, drop_of_length-le, arith}
 use Rattle.std.proofs.lemmas.Bool.Decides.{nat_tests}
 use Rattle.std.specs.Prelude.{◌==◌, Option, option_and_then, option_map, slice_index_or, if◌then◌else◌}
+use Rattle.std.specs.Bool.{Decides}
 use Rattle.std.specs.Option.{option_map_or, option_or}
 use Rattle.std.specs.Fmt.{digits}
 use Rattle.std.specs.List.{fold}
@@ -42,37 +43,26 @@ use Rattle.run_journal.proofs.Lemmas.{added-keeps, added-last, called_in, length
 -- ---- entries that are no calls
 
 -- a line that says an entry leads to the journal with it
-own_line : (v : LiveValue) (j : JournalValue) (line : List ℕ) (e : Entry) (bs : List Bool) → said_entry (replay v j) (replay v j).state.core.phase line ≡ Some (e, bs)
-    → after_entry v j line ≡ Some (InEntries v (longer j e bs))
-own_line v j line e bs is =
-    or_first (option_map (λ (x : Entry × List Bool). InEntries v (longer j x.0 x.1)) (said_entry (replay v j) (replay v j).state.core.phase line)) _ (InEntries v (longer j e bs))
-    (ap (λ o. option_map (λ (x : Entry × List Bool). InEntries v (longer j x.0 x.1)) o) is)
+entry_leads : (v : LiveValue) (j : JournalValue) (line : List ℕ) (e : Entry) (bs : List Bool) (lines : List (List ℕ)) → said_entry (replay v j) (replay v j).state.core.phase line ≡ Some (e, bs)
+    → leads_to (InEntries v j) (line ∷ lines) ≡ leads_to (InEntries v (longer j e bs)) lines
+entry_leads v j line e bs lines is =
+    leads_by (InEntries v j) (InEntries v (longer j e bs)) line lines
+    (or_first (option_map (λ (x : Entry × List Bool). InEntries v (longer j x.0 x.1)) (said_entry (replay v j) (replay v j).state.core.phase line)) _ (InEntries v (longer j e bs))
+    (ap (option_map (λ (x : Entry × List Bool). InEntries v (longer j x.0 x.1))) is))
 
 -- a line passes the test of being itself
 if_same : {A : Type 0} (line : List ℕ) (x : A) → (if same_word line line then Some x else None) ≡ Some x
 if_same line x = ap (λ t. if t then Some x else None) (same_line line)
 
 -- the line of each entry says it, in its phase and with its numbers
-said_prepare : (r : Replayed) (ph : Phase) (pass pos : ℕ) → ph ≡ Idle → pass ≡ r.state.core.ticks + 1 → pos ≡ r.drawn → said_entry r ph (spelled_prepare pass pos) ≡ Some (Prepare pass pos, [])
-said_prepare r ph pass pos idle ticks drawn =
-    ap (λ x. said_entry r x (spelled_prepare pass pos)) idle
-    ∙ (λ i. said_entry r Idle (spelled_prepare (ticks i) (drawn i)))
-    ∙ if_same (spelled_prepare (r.state.core.ticks + 1) r.drawn) (Prepare (r.state.core.ticks + 1) r.drawn, [])
-    ∙ (λ i. Some (Prepare (sym ticks i) (sym drawn i), []))
+pub said_prepare : (r : Replayed) (pass pos : ℕ) → r.state.core.phase ≡ Idle → pass ≡ r.state.core.ticks + 1 → pos ≡ r.drawn → said_entry r r.state.core.phase (spelled_prepare pass pos) ≡ Some (Prepare pass pos, [])
+said_prepare r pass pos idle ticks drawn = rw (idle, ticks, drawn) (if_same (spelled_prepare (r.state.core.ticks + 1) r.drawn) (Prepare (r.state.core.ticks + 1) r.drawn, []))
 
-said_void : (r : Replayed) (ph : Phase) (pass : ℕ) → ph ≡ VoidPhase → pass ≡ r.state.core.ticks + 1 → said_entry r ph (spelled_void pass) ≡ Some (Void pass, [])
-said_void r ph pass void ticks =
-    ap (λ x. said_entry r x (spelled_void pass)) void
-    ∙ ap (λ n. said_entry r VoidPhase (spelled_void n)) ticks
-    ∙ if_same (spelled_void (r.state.core.ticks + 1)) (Void (r.state.core.ticks + 1), [])
-    ∙ ap (λ n. Some (Void n, [])) (sym ticks)
+pub said_void : (r : Replayed) (pass : ℕ) → r.state.core.phase ≡ VoidPhase → pass ≡ r.state.core.ticks + 1 → said_entry r r.state.core.phase (spelled_void pass) ≡ Some (Void pass, [])
+said_void r pass void ticks = rw (void, ticks) (if_same (spelled_void (r.state.core.ticks + 1)) (Void (r.state.core.ticks + 1), []))
 
-said_aggregate : (r : Replayed) (ph : Phase) (tick pos : ℕ) → ph ≡ Due → tick ≡ r.state.core.ticks → pos ≡ r.drawn → said_entry r ph (spelled_aggregate tick pos) ≡ Some (Aggregate tick pos, [])
-said_aggregate r ph tick pos due ticks drawn =
-    ap (λ x. said_entry r x (spelled_aggregate tick pos)) due
-    ∙ (λ i. said_entry r Due (spelled_aggregate (ticks i) (drawn i)))
-    ∙ if_same (spelled_aggregate r.state.core.ticks r.drawn) (Aggregate r.state.core.ticks r.drawn, [])
-    ∙ (λ i. Some (Aggregate (sym ticks i) (sym drawn i), []))
+pub said_aggregate : (r : Replayed) (tick pos : ℕ) → r.state.core.phase ≡ Due → tick ≡ r.state.core.ticks → pos ≡ r.drawn → said_entry r r.state.core.phase (spelled_aggregate tick pos) ≡ Some (Aggregate tick pos, [])
+said_aggregate r tick pos due ticks drawn = rw (due, ticks, drawn) (if_same (spelled_aggregate r.state.core.ticks r.drawn) (Aggregate r.state.core.ticks r.drawn, []))
 
 -- the digits of results say these
 bits_back : (bits : List Bool) → bits_of (map bit_digit bits) ≡ Some bits
@@ -87,25 +77,24 @@ n_bits_back n bits is =
     ap (λ o. option_and_then (λ (bs : List Bool). if length bs == n then Some bs else None) o) (bits_back bits)
     ∙ ap (λ t. if t then Some bits else None) same
 
-said_check : (r : Replayed) (ph : Phase) (pass : ℕ) (bits : List Bool) → ph ≡ Armed → pass ≡ r.state.core.ticks + 1 → length bits ≡ row_count r.state.core
-    → said_entry r ph (spelled_check pass bits) ≡ Some (Check pass, bits)
-said_check r ph pass bits armed ticks count =
-    ap (λ x. said_entry r x (spelled_check pass bits)) armed
-    ∙ ap (λ n. said_entry r Armed (spelled_check n bits)) ticks
+said_check : (r : Replayed) (pass : ℕ) (bits : List Bool) → r.state.core.phase ≡ Armed → pass ≡ r.state.core.ticks + 1 → length bits ≡ row_count r.state.core
+    → said_entry r r.state.core.phase (spelled_check pass bits) ≡ Some (Check pass, bits)
+said_check r pass bits armed ticks count =
+    (λ i. said_entry r (armed i) (spelled_check (ticks i) bits))
     ∙ ap (λ o. option_map (λ (bs : List Bool). (Check (r.state.core.ticks + 1), bs)) (option_and_then (n_bits_of (row_count r.state.core)) o)) (after_prefix-append (check_front (r.state.core.ticks + 1)) (map bit_digit bits))
     ∙ ap (λ o. option_map (λ (bs : List Bool). (Check (r.state.core.ticks + 1), bs)) o) (n_bits_back (row_count r.state.core) bits count)
     ∙ ap (λ n. Some (Check n, bits)) (sym ticks)
 
 -- ---- calls
 
--- a free phase passes the test
-is_free-true : (ph : Phase) → IsFree ph → is_free ph ≡ true
-is_free-true Idle free = refl
-is_free-true Armed free = refl
-is_free-true VoidPhase free = refl
-is_free-true (Clearing k) free = absurd free
-is_free-true (Checking k) free = absurd free
-is_free-true Due free = absurd free
+-- a phase passes the test exactly if it is free
+pub free_decides : (ph : Phase) → Decides (is_free ph) (IsFree ph)
+free_decides Idle = (λ e. tt, λ free. refl)
+free_decides Armed = (λ e. tt, λ free. refl)
+free_decides VoidPhase = (λ e. tt, λ free. refl)
+free_decides (Clearing k) = (λ e. absurd cc, λ free. absurd free)
+free_decides (Checking k) = (λ e. absurd cc, λ free. absurd free)
+free_decides Due = (λ e. absurd cc, λ free. absurd free)
 
 -- the first line of a call is no other line
 no_entry : (r : Replayed) (ph : Phase) (c i : ℕ) (word : List ℕ) → said_entry r ph (call_front c i ++ word) ≡ None
@@ -138,13 +127,13 @@ called_back v j c (CommitCall commit) =
     ap (λ o. option_and_then (after_call_word v j c) o) (after_prefix-append (call_front c (length (calls_so_far v c))) (codes "commit"))
 
 -- the tries of all controllers
-abbrev tries_2 : LiveValue → JournalValue → List ℕ → Option JournalPlace
+abbrev pub tries_2 : LiveValue → JournalValue → List ℕ → Option JournalPlace
 tries_2 v j line = option_or (after_call_of v j 2 line) (after_call_of v j 3 line)
 
-abbrev tries_1 : LiveValue → JournalValue → List ℕ → Option JournalPlace
+abbrev pub tries_1 : LiveValue → JournalValue → List ℕ → Option JournalPlace
 tries_1 v j line = option_or (after_call_of v j 1 line) (tries_2 v j line)
 
-abbrev tries : LiveValue → JournalValue → List ℕ → Option JournalPlace
+abbrev pub tries : LiveValue → JournalValue → List ℕ → Option JournalPlace
 tries v j line = option_or (after_call_of v j 0 line) (tries_1 v j line)
 
 -- and for no controller before it
@@ -163,7 +152,7 @@ call_begins v j c call few free =
     let line = call_line v c call in
     ap (λ o. option_or (option_map (λ (x : Entry × List Bool). InEntries v (longer j x.0 x.1)) o) (option_or (where_so (same_word line (codes "receipts") && is_idle (replay v j).state.core.phase) (InReceipts v j [])) (after_call v j line)))
     (no_entry (replay v j) (replay v j).state.core.phase c (length (calls_so_far v c)) (word_of call))
-    ∙ ap (λ t. if t then tries v j line else None) (is_free-true (replay v j).state.core.phase free)
+    ∙ ap (λ t. if t then tries v j line else None) ((free_decides (replay v j).state.core.phase).1 free)
     ∙ tried v j c call few
 
 -- ---- the block of a commit
@@ -239,49 +228,24 @@ pub record ReadsOn (v : LiveValue) (done : List (List CallValue)) (j : JournalVa
   pub next : carried v (replay_with (so_far v done) j b) e ≡ replay_with (so_far v later) (longer j e (taken v done j b e)) (left v done j b e)
   pub steps_are : steps (so_far v later) (longer j e (taken v done j b e)) ≡ steps (so_far v done) j ++ entry_steps v (replay_with (so_far v done) j b) e
 
--- an entry's line leads on
-entry_leads : (v : LiveValue) (j : JournalValue) (line : List ℕ) (e : Entry) (bs : List Bool) (lines : List (List ℕ)) → said_entry (replay v j) (replay v j).state.core.phase line ≡ Some (e, bs)
-    → leads_to (InEntries v j) (line ∷ lines) ≡ leads_to (InEntries v (longer j e bs)) lines
-entry_leads v j line e bs lines is = leads_by (InEntries v j) (InEntries v (longer j e bs)) line lines (own_line v j line e bs is)
-
 -- a replay with these results left
 abbrev with_results : List Bool → Replayed → Replayed
 with_results bs r = record r { bits = bs }
 
-pub prepare_reads : (v : LiveValue) (done : List (List CallValue)) (j : JournalValue) (b : List Bool) (pass pos : ℕ) → IsJournalOf (so_far v done) j → EntryFits v (replay_with (so_far v done) j b) (Prepare pass pos)
-    → ReadsOn v done j b (Prepare pass pos) done
-prepare_reads v done j b pass pos is fits =
+-- the line of an entry that is no call is read, where its results are the first of those that are left
+pub own_reads : (v : LiveValue) (done : List (List CallValue)) (j : JournalValue) (b : List Bool) (e : Entry) (line : List ℕ) → IsJournalOf (so_far v done) j
+    → EntryFits (so_far v done) (replay_with (so_far v done) j (taken v done j b e)) e → (carried (so_far v done) (replay_with (so_far v done) j (taken v done j b e)) e).bits ≡ []
+    → entry_lines v (taken v done j b e) e ≡ line ∷ [] → said_entry (replay (so_far v done) j) (replay (so_far v done) j).state.core.phase line ≡ Some (e, taken v done j b e)
+    → carried v (replay_with (so_far v done) j b) e ≡ with_results (left v done j b e) (carried (so_far v done) (replay_with (so_far v done) j (taken v done j b e)) e)
+    → entry_steps (so_far v done) (replay_with (so_far v done) j (taken v done j b e)) e ≡ entry_steps v (replay_with (so_far v done) j b) e → ReadsOn v done j b e done
+own_reads v done j b e line is fits none lines said next same =
     let vd = so_far v done in
-    let more = lengthened vd done j (Prepare pass pos) [] (λ c i x e. e) is fits refl in
+    let more = lengthened vd done j e (taken v done j b e) (λ c i x e. e) is fits none in
     record {
       journal = more.journal;
-      leads = λ lines. entry_leads vd j (spelled_prepare pass pos) (Prepare pass pos) [] lines (said_prepare (replay vd j) (replay vd j).state.core.phase pass pos fits.0 fits.1 fits.2);
-      next = sym (ap (with_results b) more.is);
-      steps_are = more.steps_are;
-    }
-
-pub void_reads : (v : LiveValue) (done : List (List CallValue)) (j : JournalValue) (b : List Bool) (pass : ℕ) → IsJournalOf (so_far v done) j → EntryFits v (replay_with (so_far v done) j b) (Void pass)
-    → ReadsOn v done j b (Void pass) done
-void_reads v done j b pass is fits =
-    let vd = so_far v done in
-    let more = lengthened vd done j (Void pass) [] (λ c i x e. e) is fits refl in
-    record {
-      journal = more.journal;
-      leads = λ lines. entry_leads vd j (spelled_void pass) (Void pass) [] lines (said_void (replay vd j) (replay vd j).state.core.phase pass fits.0 fits.1);
-      next = sym (ap (with_results b) more.is);
-      steps_are = more.steps_are;
-    }
-
-pub aggregate_reads : (v : LiveValue) (done : List (List CallValue)) (j : JournalValue) (b : List Bool) (tick pos : ℕ) → IsJournalOf (so_far v done) j → EntryFits v (replay_with (so_far v done) j b) (Aggregate tick pos)
-    → ReadsOn v done j b (Aggregate tick pos) done
-aggregate_reads v done j b tick pos is fits =
-    let vd = so_far v done in
-    let more = lengthened vd done j (Aggregate tick pos) [] (λ c i x e. e) is fits refl in
-    record {
-      journal = more.journal;
-      leads = λ lines. entry_leads vd j (spelled_aggregate tick pos) (Aggregate tick pos) [] lines (said_aggregate (replay vd j) (replay vd j).state.core.phase tick pos fits.0 fits.1 fits.2);
-      next = sym (ap (with_results b) more.is);
-      steps_are = more.steps_are;
+      leads = λ rest. ap (λ ls. leads_to (InEntries vd j) (ls ++ rest)) lines ∙ entry_leads vd j line e (taken v done j b e) rest said;
+      next = next ∙ sym (ap (with_results (left v done j b e)) more.is);
+      steps_are = more.steps_are ∙ ap (λ l. steps vd j ++ l) same;
     }
 
 pub check_reads : (v : LiveValue) (done : List (List CallValue)) (j : JournalValue) (b : List Bool) (pass : ℕ) → IsJournalOf (so_far v done) j → EntryFits v (replay_with (so_far v done) j b) (Check pass)
@@ -292,16 +256,9 @@ check_reads v done j b pass is fits =
     let bs = take n b in
     let count : length bs ≡ n = length-take-le n b fits.2 in
     let twice : take n bs ≡ bs = take-take n n b (omega arith) in
-    let none : drop n bs ≡ [] = drop_of_length-le bs (omega (arith, count)) in
-    let more = lengthened vd done j (Check pass) bs (λ c i x e. e) is (fits.0, fits.1, omega (arith, count)) none in
-    record {
-      journal = more.journal;
-      leads = λ lines. entry_leads vd j (spelled_check pass bs) (Check pass) bs lines (said_check (replay vd j) (replay vd j).state.core.phase pass bs fits.0 fits.1 count);
-      next =
-          ap {A = List Bool} {B = Replayed} (λ l. record (carried v (replay_with vd j b) (Check pass)) { state = run (replay vd j).state (map (λ bit. load bit) l ++ observe ∷ []) }) (sym twice)
-          ∙ sym (ap (with_results (drop n b)) more.is);
-      steps_are = more.steps_are ∙ ap (λ l. steps vd j ++ load_steps pass (replay vd j).state.core.picks l) twice;
-    }
+    own_reads v done j b (Check pass) (spelled_check pass bs) is (fits.0, fits.1, omega (arith, count)) (drop_of_length-le bs (omega (arith, count))) refl (said_check (replay vd j) pass bs fits.0 fits.1 count)
+    (ap {A = List Bool} {B = Replayed} (λ l. record (carried v (replay_with vd j b) (Check pass)) { state = run (replay vd j).state (map (λ bit. load bit) l ++ observe ∷ []) }) (sym twice))
+    (ap (load_steps pass (replay vd j).state.core.picks) twice)
 
 pub call_reads : (v : LiveValue) (done : List (List CallValue)) (j : JournalValue) (b : List Bool) (c : ℕ) (answer : CallAnswer) (call : CallValue) → length done ≡ 4 → c < 4 → FitsCall v.setup.version call
     → IsJournalOf (so_far v done) j → IsFree (replay (so_far v done) j).state.core.phase → call_at v c (length (slice_index_or done c [])) ≡ Some call → answer ≡ call_answer call (replay (so_far v done) j).state.core

@@ -48,22 +48,6 @@ pub reads_more : (n : ℕ) (p : Place OfJournal) (line : List ℕ) (lines : List
 reads_more n p line [] some = absurd (omega arith)
 reads_more n p line (next ∷ more) some = refl
 
--- the first line of a head
-line_led : (p q : Place OfJournal) (line : List ℕ) (rest : List (List ℕ)) (last : JournalPlace) → place_after OfJournal p line ≡ Ok q → HeadLed q rest last → HeadLed p (line ∷ rest) last
-line_led p q line rest last e others = record {
-  head = others.head;
-  front = line ∷ others.front;
-  body = others.body;
-  split = ap (λ ls. line ∷ ls) others.split;
-  read = λ n.
-      let pieces = others.front ++ [] ∷ [] in
-      let none : List (List ℕ) = [] ∷ [] in
-      reads_more n p line pieces (omega (arith, length-append others.front none))
-      ∙ ap (λ r. at n r >>= λ x. reads OfJournal (n + 1) x pieces) e
-      ∙ others.read (n + 1);
-  lead = others.lead;
-}
-
 -- what leads to the last lines of a text
 abbrev Ends : JournalPlace → List (List ℕ) → JournalPlace → Type 0
 Ends place lines last = leads_to place lines ≡ Some last
@@ -85,7 +69,20 @@ first_led : (p : Place OfJournal) (line : List ℕ) (rest : List (List ℕ)) (la
 first_led p line rest last deeper (Err kind) read next reached lead = absurd cc
 first_led p line rest last deeper (Ok q) read next reached lead =
     let is : after_head q ≡ next = cc in
-    line_led p q line rest last read (deeper q (ap (λ x. leads_to x rest) is ∙ lead))
+    let others = deeper q (ap (λ x. leads_to x rest) is ∙ lead) in
+    record {
+      head = others.head;
+      front = line ∷ others.front;
+      body = others.body;
+      split = ap (λ ls. line ∷ ls) others.split;
+      read = λ n.
+          let pieces = others.front ++ [] ∷ [] in
+          let none : List (List ℕ) = [] ∷ [] in
+          reads_more n p line pieces (omega (arith, length-append others.front none))
+          ∙ ap (λ r. at n r >>= λ x. reads OfJournal (n + 1) x pieces) read
+          ∙ others.read (n + 1);
+      lead = others.lead;
+    }
 
 -- lines that lead to the last ones are those of a head, and then others
 pub head_led : (p : Place OfJournal) (lines : List (List ℕ)) (said : JournalRead) (wanted : List (List ℕ)) → Ends (after_head p) lines (AtLast said wanted) → HeadLed p lines (AtLast said wanted)

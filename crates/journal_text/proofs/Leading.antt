@@ -7,7 +7,7 @@ use Rattle.script_lines.specs.Words.{same_word}
 use Rattle.journal_text.specs.EntryLine.{where_so}
 use Rattle.journal_text.specs.Place.{AtAnswer, AtLast, InBlock, InEntries, InHead, InReceipts, JournalPlace, JournalRead}
 use Rattle.journal_text.specs.Reading.{line_after, said_at_end, said_from}
-use Rattle.journal_text.proofs.Common.{bind-Ok, if_ok, if_some, is_line, ok_some, same_line, then_some}
+use Rattle.journal_text.proofs.Common.{bind-Ok, if_ok, is_line, ok_some, same_line, then_some}
 
 -- the place to which lines lead from another
 abbrev pub leads_to : JournalPlace → List (List ℕ) → Option JournalPlace
@@ -17,10 +17,6 @@ leads_to place (line ∷ lines) = option_and_then (λ next. leads_to next lines)
 -- a line that leads on, before others
 pub leads_by : (place next : JournalPlace) (line : List ℕ) (lines : List (List ℕ)) → line_after place line ≡ Some next → leads_to place (line ∷ lines) ≡ leads_to next lines
 leads_by place next line lines is = ap (λ o. option_and_then (λ p. leads_to p lines) o) is
-
--- a place behind a test that passed
-pub so_some : (test : Bool) (place next : JournalPlace) → where_so test place ≡ Some next → (test ≡ true) × (place ≡ next)
-so_some test place next e = if_some test place next e
 
 -- a place behind a test that passes
 pub found : (test : Bool) (place : JournalPlace) → test ≡ true → where_so test place ≡ Some place

@@ -1,6 +1,5 @@
 -- Lines that lead from the first entry of a journal are those of the journal and the receipts that were read.
-use Rattle.std.proofs.Common.{◌≡◌, ℕ, zero, suc, ◌+◌, ◌-◌, ◌≤◌, ◌<◌, ◌&&◌, true, List, [], ◌∷◌, ◌++◌, codes, length, map, nat_le, nat_lt, Some, None, Ok, Err, refl, sym, ap, ◌∙◌, subst, append_assoc, append-nil, arith}
-use Rattle.std.proofs.lemmas.Bool.Decides.{nat_tests}
+use Rattle.std.proofs.Common.{◌≡◌, ℕ, zero, suc, ◌+◌, ◌-◌, ◌≤◌, ◌<◌, ◌&&◌, List, [], ◌∷◌, ◌++◌, codes, length, map, Some, None, Ok, Err, refl, sym, ap, ◌∙◌, subst, append_assoc, append-nil, arith}
 use Rattle.std.proofs.lemmas.List.{map-append}
 use Rattle.std.specs.Prelude.{Result, replicate, if◌then◌else◌}
 use Rattle.std.specs.List.{list_all}
@@ -11,7 +10,6 @@ use Rattle.line_text.specs.Parts.{parts}
 use Rattle.script_lines.specs.declared.kind.ScriptKind.{ScriptKind}
 use Rattle.script_lines.specs.Refusal.{◌>>=◌}
 use Rattle.script_lines.specs.Words.{arguments, same_word}
-use Rattle.damon_control.specs.declared.live.TheConstants.{MAX_WORKERS}
 use Rattle.damon_control.specs.Live.{LiveValue}
 use Rattle.run_journal.specs.declared.entry.Receipt.{Receipt}
 use Rattle.run_journal.specs.Growth.{added_to}
@@ -20,14 +18,14 @@ use Rattle.run_journal.specs.Lawful.{all_of}
 use Rattle.journal_text.specs.Place.{AtAnswer, AtLast, InBlock, InEntries, InHead, InReceipts, JournalPlace, JournalRead}
 use Rattle.journal_text.specs.Reading.{after_last, line_after}
 use Rattle.run_journal.specs.Replay.{JournalValue, replay}
-use Rattle.journal_text.specs.SeenLine.{after_seen, after_settled, has_receipt, is_risen, is_tag, may_be_seen, receipts_so_far, seen_fields, seen_line, seen_of, with_receipt}
+use Rattle.journal_text.specs.SeenLine.{after_seen, after_settled, has_receipt, may_be_seen, seen_fields, seen_line, seen_of, with_receipt}
 use Rattle.journal_text.specs.Spelled.{spelled_seen}
 use Rattle.run_journal.specs.Steps.{steps}
 use Rattle.journal_text.specs.Text.{journal_lines, last_text, seen_lines}
-use Rattle.journal_text.proofs.Common.{both_are, if_some, is_line, map_some, or_cases, then_some}
-use Rattle.journal_text.proofs.EntriesSay.{SayLast, SaySeen, SaysEntries, at_answer, in_block, in_entries}
-use Rattle.journal_text.proofs.Leading.{leads_to, so_some}
-use Rattle.journal_text.proofs.SeenSay.{count_more, count_padded, seen_added}
+use Rattle.journal_text.proofs.Common.{both_are, is_line, map_some, or_cases, past, then_some}
+use Rattle.journal_text.proofs.EntriesSay.{SayLast, SaysEntries, at_answer, in_block, in_entries, lines_to}
+use Rattle.journal_text.proofs.Leading.{leads_to}
+use Rattle.journal_text.proofs.SeenSay.{count_more, count_padded, may_decides, seen_added}
 
 -- ---- lines of receipts
 
@@ -75,83 +73,50 @@ seen_below space (Ok x) said is =
 -- a line is compared with the spelling of what it says
 said_seen : (space : List Target) (line : List ℕ) (x : ℕ × Receipt) → seen_line space line ≡ Some x → SaidSeen space line x
 said_seen space line x e =
-    let read = seen_of space (arguments (codes "seen") line >>= seen_fields) in
-    let y = then_some read (λ (y : ℕ × Receipt). if same_word line (spelled_seen space y.0 y.1) then Some y else None) x e in
-    let is = if_some (same_word line (spelled_seen space y.0.0 y.0.1)) y.0 x y.2 in
-    subst (SaidSeen space line) is.1 (record {
-      spelled = is_line line (spelled_seen space y.0.0 y.0.1) is.0;
-      below = seen_below space (arguments (codes "seen") line >>= seen_fields) y.0 y.1;
-    })
+    let read = arguments (codes "seen") line >>= seen_fields in
+    let y = then_some (seen_of space read) (λ (y : ℕ × Receipt). if same_word line (spelled_seen space y.0 y.1) then Some y else None) x e in
+    let w = spelled_seen space y.0.0 y.0.1 in
+    past (SaidSeen space line) (same_word line w) y.0 x (λ is. record { spelled = is_line line w is; below = seen_below space read y.0 y.1 }) y.2
 
--- a receipt that may come next
-record MayCome (v : LiveValue) (j : JournalValue) (all : List (List Receipt)) (w : ℕ) (r : Receipt) : Type 0 where
-  few : length all ≤ w + 1
-  within : w < MAX_WORKERS
-  named : is_tag (steps v j) r.page r.tag ≡ true
-  risen : is_risen (receipts_so_far all w) r ≡ true
-
--- by the tests of the reader
-may_come_next : (v : LiveValue) (j : JournalValue) (all : List (List Receipt)) (w : ℕ) (r : Receipt) → may_be_seen (steps v j) all w r ≡ true → MayCome v j all w r
-may_come_next v j all w r e =
-    let may = both_are (nat_le (length all) (w + 1) && nat_lt w MAX_WORKERS) (is_tag (steps v j) r.page r.tag && is_risen (receipts_so_far all w) r) e in
-    let worker = both_are (nat_le (length all) (w + 1)) (nat_lt w MAX_WORKERS) may.0 in
-    let tests = both_are (is_tag (steps v j) r.page r.tag) (is_risen (receipts_so_far all w) r) may.1 in
-    record { few = grind (arith, nat_tests, worker.0); within = grind (arith, nat_tests, worker.1); named = tests.0; risen = tests.1 }
+-- a line after those of the receipts and perhaps others
+one_more_line : (v : LiveValue) (j : JournalValue) (all : List (List Receipt)) (lines shown : List (List ℕ)) (line w : List ℕ) → lines ≡ lines_to v j all shown → line ≡ w
+    → lines ++ line ∷ [] ≡ lines_to v j all (shown ++ w ∷ [])
+one_more_line v j all lines shown line w are is =
+    let seen = seen_lines v.setup.space 0 all in
+    (λ i. are i ++ is i ∷ [])
+    ∙ append_assoc (journal_lines v j) (codes "receipts" ∷ (seen ++ shown)) (w ∷ [])
+    ∙ ap (λ ls. journal_lines v j ++ codes "receipts" ∷ ls) (append_assoc seen shown (w ∷ []))
 
 -- a `seen` line
 seen_says : (head lines : List (List ℕ)) (v : LiveValue) (j : JournalValue) (all : List (List Receipt)) (line : List ℕ) (next : JournalPlace)
-    → SaySeen head lines [] v j all → after_seen v j all line ≡ Some next → SaysEntries head (lines ++ line ∷ []) next
-seen_says head lines v j all line next before e =
+    → SaysEntries head lines (InReceipts v j all) → after_seen v j all line ≡ Some next → SaysEntries head (lines ++ line ∷ []) next
+seen_says head lines v j all line next says e =
     let space = v.setup.space in
     let x = then_some (seen_line space line) (λ (x : ℕ × Receipt). where_so (may_be_seen (steps v j) all x.0 x.1) (InReceipts v j (with_receipt all x.0 x.1))) next e in
     let w = x.0.0 in
     let r = x.0.1 in
     let said = said_seen space line x.0 x.1 in
-    let is = so_some (may_be_seen (steps v j) all w r) (InReceipts v j (with_receipt all w r)) next x.2 in
-    let may = may_come_next v j all w r is.0 in
-    let so_far = seen_lines space 0 all in
-    let later = seen_lines space 0 (with_receipt all w r) in
-    let own = spelled_seen space w r in
-    subst (SaysEntries head (lines ++ line ∷ [])) is.1 (record {
-      spelled =
-          (λ i. before.spelled i ++ said.spelled i ∷ [])
-          ∙ append_assoc (journal_lines v j) (codes "receipts" ∷ (so_far ++ [])) (own ∷ [])
-          ∙ ap (λ ls. journal_lines v j ++ codes "receipts" ∷ ls) (append_assoc so_far [] (own ∷ []) ∙ sym (seen_more space all w r may.few) ∙ sym (append-nil later));
-      journal = before.journal;
-      head_is = before.head_is;
-      turn = before.turn;
-      can = before.can;
-      workers = omega (arith, may.within, count_more all w r may.few);
-      idle = before.idle;
-      seen = seen_added (pages_of space) (steps v j) all w r may.few before.seen said.below may.named may.risen;
-    })
+    let before = says.1 in
+    past (SaysEntries head (lines ++ line ∷ [])) (may_be_seen (steps v j) all w r) (InReceipts v j (with_receipt all w r)) next (λ is.
+    let may = (may_decides (steps v j) all w r).0 is in (
+      one_more_line v j all lines [] line (spelled_seen space w r) says.0 said.spelled
+          ∙ ap (λ ls. journal_lines v j ++ codes "receipts" ∷ ls) (sym (seen_more space all w r may.0.0) ∙ sym (append-nil (seen_lines space 0 (with_receipt all w r)))),
+      record {
+        before = before.before;
+        workers = omega (arith, may.0.1, count_more all w r may.0.0);
+        idle = before.idle;
+        seen = seen_added (pages_of space) (steps v j) all w r before.seen said.below may;
+      },
+    )) x.2
 
 -- `settled`
 settled_says : (head lines : List (List ℕ)) (v : LiveValue) (j : JournalValue) (all : List (List Receipt)) (line : List ℕ) (next : JournalPlace)
-    → SaySeen head lines [] v j all → after_settled v j all line ≡ Some next → SaysEntries head (lines ++ line ∷ []) next
-settled_says head lines v j all line next before e =
+    → SaysEntries head lines (InReceipts v j all) → after_settled v j all line ≡ Some next → SaysEntries head (lines ++ line ∷ []) next
+settled_says head lines v j all line next says =
     let tests = list_all (has_receipt (all_of all)) (steps v j) in
-    let is = so_some (same_word line (codes "settled") && tests) (AtLast (record { live = v; journal = j; receipts = all }) (parts 10 (last_text (replay v j).state))) next e in
-    let both = both_are (same_word line (codes "settled")) tests is.0 in
-    let so_far = seen_lines v.setup.space 0 all in
-    subst (SaysEntries head (lines ++ line ∷ [])) is.1 (record {
-      shown = [];
-      seen = record {
-        spelled =
-            (λ i. before.spelled i ++ is_line line (codes "settled") both.0 i ∷ [])
-            ∙ append_assoc (journal_lines v j) (codes "receipts" ∷ (so_far ++ [])) (codes "settled" ∷ [])
-            ∙ ap (λ ls. journal_lines v j ++ codes "receipts" ∷ ls) (append_assoc so_far [] (codes "settled" ∷ []));
-        journal = before.journal;
-        head_is = before.head_is;
-        turn = before.turn;
-        can = before.can;
-        workers = before.workers;
-        idle = before.idle;
-        seen = before.seen;
-      };
-      received = both.1;
-      rest = refl;
-    })
+    past (SaysEntries head (lines ++ line ∷ [])) (same_word line (codes "settled") && tests) (AtLast (record { live = v; journal = j; receipts = all }) (parts 10 (last_text (replay v j).state))) next (λ is.
+    let both = both_are (same_word line (codes "settled")) tests is in
+    record { shown = []; spelled = one_more_line v j all lines [] line (codes "settled") says.0 (is_line line (codes "settled") both.0); sound = says.1; received = both.1; rest = refl })
 
 -- ---- the last lines
 
@@ -159,28 +124,13 @@ settled_says head lines v j all line next before e =
 at_last : (head lines : List (List ℕ)) (said : JournalRead) (wanted : List (List ℕ)) (line : List ℕ) (next : JournalPlace) → SayLast head lines said wanted → after_last said wanted line ≡ Some next → SaysEntries head (lines ++ line ∷ []) next
 at_last head lines said [] line next before e = absurd cc
 at_last head lines said (w ∷ []) line next before e = absurd cc
-at_last head lines said (w ∷ wanted ∷ more) line next before e =
-    let is = so_some (same_word line w) (AtLast said (wanted ∷ more)) next e in
-    let entries = journal_lines said.live said.journal in
-    let seen = seen_lines said.live.setup.space 0 said.receipts in
-    subst (SaysEntries head (lines ++ line ∷ [])) is.1 (record {
-      shown = before.shown ++ w ∷ [];
-      seen = record {
-        spelled =
-            (λ i. before.seen.spelled i ++ is_line line w is.0 i ∷ [])
-            ∙ append_assoc entries (codes "receipts" ∷ (seen ++ codes "settled" ∷ before.shown)) (w ∷ [])
-            ∙ ap (λ ls. entries ++ codes "receipts" ∷ ls) (append_assoc seen (codes "settled" ∷ before.shown) (w ∷ []));
-        journal = before.seen.journal;
-        head_is = before.seen.head_is;
-        turn = before.seen.turn;
-        can = before.seen.can;
-        workers = before.seen.workers;
-        idle = before.seen.idle;
-        seen = before.seen.seen;
-      };
-      received = before.received;
-      rest = append_assoc before.shown (w ∷ []) (wanted ∷ more) ∙ before.rest;
-    })
+at_last head lines said (w ∷ wanted ∷ more) line next before e = past (SaysEntries head (lines ++ line ∷ [])) (same_word line w) (AtLast said (wanted ∷ more)) next (λ is. record {
+  shown = before.shown ++ w ∷ [];
+  spelled = one_more_line said.live said.journal said.receipts lines (codes "settled" ∷ before.shown) line w before.spelled (is_line line w is);
+  sound = before.sound;
+  received = before.received;
+  rest = append_assoc before.shown (w ∷ []) (wanted ∷ more) ∙ before.rest;
+}) e
 
 -- ---- all lines
 

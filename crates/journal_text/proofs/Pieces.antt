@@ -10,6 +10,7 @@ use Rattle.damon_types.specs.declared.scheme.SchemeFault.TheVariants.{SlotOutOfR
 use Rattle.damon_types.specs.declared.scheme.Version.{Version}
 use Rattle.damon_types.specs.declared.space.Target.{Target}
 use Rattle.damon_types.specs.Space.{pages_of}
+use Rattle.damon_types.proofs.Lemmas.{all_parts}
 use Rattle.target_ranges.specs.declared.fault.RangeWhy.{RangeWhy}
 use Rattle.target_ranges.specs.declared.fault.RangeWhy.TheVariants.{TooMany, NoSuchTarget, Unaligned, Reversed, OutsideSpan, TooSmall, BadClass, Overlap}
 use Rattle.live_commit.specs.declared.fault.CommitFault.{CommitFault}
@@ -32,7 +33,8 @@ use Rattle.run_journal.specs.declared.entry.Entry.{Entry}
 use Rattle.run_journal.specs.declared.entry.Entry.TheVariants.{Prepare, Check, Void, Aggregate, Call}
 use Rattle.run_journal.specs.declared.entry.Receipt.{Receipt}
 use Rattle.run_journal.specs.Replay.{JournalValue, Replayed, begun, bits_taken, call_at, carried}
-use Rattle.run_journal.specs.Limits.{AnswerFits, CanCall, EntryNumbersFit, FaultFits}
+use Rattle.run_journal.specs.Limits.{AnswerFits, CanCall, EntryNumbersFit, FaultFits, TagsFit}
+use Rattle.run_journal.specs.Lawful.{all_of}
 use Rattle.journal_text.specs.SeenLine.{PlaceFits}
 use Rattle.journal_text.specs.Spelled.{answer_said, answered_lines, bit_digit, call_front, call_lines, check_front, spelled_aggregate, spelled_answer, spelled_check, spelled_prepare, spelled_seen, spelled_void}
 use Rattle.journal_text.specs.Text.{entries_lines, entry_lines, journal_lines, seen_lines}
@@ -162,33 +164,30 @@ entries_pieces v can r (e ∷ es) fits =
 
 -- ---- receipts
 
--- the page of each receipt is one of the space, and its tag a number of 64 bits
-abbrev pub ReceiptsFit : List Target → List (List Receipt) → Type 0
-ReceiptsFit space all = AllByRecursion (λ rs. AllByRecursion (λ r. (r.page < pages_of space) × (r.tag < 2 ^ 64)) rs) all
-
 pub seen_piece : (space : List Target) (w : ℕ) (r : Receipt) → PlaceFits space r.page → w < 2 ^ 8 → r.tag < 2 ^ 64 → IsPiece 10 (spelled_seen space w r)
 seen_piece space w r fit few tag = literal (spelled_seen space w r) (line_prints (codes "seen") (seen_words space w r) (words_plain space w r fit few tag))
 
-worker_pieces : (space : List Target) → PlacesFit space → (w : ℕ) (rs : List Receipt) → w < 2 ^ 8 → AllByRecursion (λ r. (r.page < pages_of space) × (r.tag < 2 ^ 64)) rs → Pieces (map (spelled_seen space w) rs)
-worker_pieces space fit w [] few each = no_pieces
-worker_pieces space fit w (r ∷ rs) few each =
-    piece_first (spelled_seen space w r) (map (spelled_seen space w) rs) (seen_piece space w r (fit r.page each.0.0) few each.0.1) (worker_pieces space fit w rs few each.1)
+worker_pieces : (space : List Target) → PlacesFit space → (w : ℕ) (rs : List Receipt) → w < 2 ^ 8 → AllByRecursion (λ r. r.page < pages_of space) rs → AllByRecursion (λ r. r.tag < 2 ^ 64) rs → Pieces (map (spelled_seen space w) rs)
+worker_pieces space fit w [] few within tags = no_pieces
+worker_pieces space fit w (r ∷ rs) few within tags =
+    piece_first (spelled_seen space w r) (map (spelled_seen space w) rs) (seen_piece space w r (fit r.page within.0) few tags.0) (worker_pieces space fit w rs few within.1 tags.1)
 
-seen_pieces : (space : List Target) → PlacesFit space → (w : ℕ) (all : List (List Receipt)) → w + length all ≤ MAX_WORKERS → ReceiptsFit space all → Pieces (seen_lines space w all)
-seen_pieces space fit w [] few each = no_pieces
-seen_pieces space fit w (rs ∷ all) few each =
-    both_pieces (map (spelled_seen space w) rs) (seen_lines space (w + 1) all) (worker_pieces space fit w rs (omega (arith, few)) each.0)
-    (seen_pieces space fit (w + 1) all (omega (arith, few)) each.1)
+seen_pieces : (space : List Target) → PlacesFit space → (w : ℕ) (all : List (List Receipt)) → w + length all ≤ MAX_WORKERS → AllByRecursion (λ r. r.page < pages_of space) (all_of all) → TagsFit all → Pieces (seen_lines space w all)
+seen_pieces space fit w [] few within tags = no_pieces
+seen_pieces space fit w (rs ∷ all) few within tags =
+    let apart = all_parts (λ r. r.page < pages_of space) rs (all_of all) within in
+    both_pieces (map (spelled_seen space w) rs) (seen_lines space (w + 1) all) (worker_pieces space fit w rs (omega (arith, few)) apart.0 tags.0)
+    (seen_pieces space fit (w + 1) all (omega (arith, few)) apart.1 tags.1)
 
 -- ---- all lines after the head, up to `settled`
 
 -- for a journal and receipts within their types
 pub body_pieces : (v : LiveValue) (j : JournalValue) (all : List (List Receipt)) → PlacesFit v.setup.space → CanCall v → length all ≤ MAX_WORKERS
-    → AllByRecursion EntryNumbersFit j.entries → ReceiptsFit v.setup.space all
+    → AllByRecursion EntryNumbersFit j.entries → AllByRecursion (λ r. r.page < pages_of v.setup.space) (all_of all) → TagsFit all
     → Pieces (journal_lines v j ++ codes "receipts" ∷ (seen_lines v.setup.space 0 all ++ codes "settled" ∷ []))
-body_pieces v j all places can few numbers receipts =
+body_pieces v j all places can few numbers within tags =
     let seen = seen_lines v.setup.space 0 all in
     both_pieces (journal_lines v j) (codes "receipts" ∷ (seen ++ codes "settled" ∷ []))
     (entries_pieces v can (begun v j.bits) j.entries numbers)
     (piece_first (codes "receipts") (seen ++ codes "settled" ∷ []) (literal (codes "receipts") refl)
-    (both_pieces seen (codes "settled" ∷ []) (seen_pieces v.setup.space places 0 all (omega (arith, few)) receipts) (one (codes "settled") (literal (codes "settled") refl))))
+    (both_pieces seen (codes "settled" ∷ []) (seen_pieces v.setup.space places 0 all (omega (arith, few)) within tags) (one (codes "settled") (literal (codes "settled") refl))))

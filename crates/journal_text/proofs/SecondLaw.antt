@@ -1,54 +1,45 @@
 -- The text of a lawful journal is read.
-use Rattle.std.proofs.Common.{◌≡◌, ◌⊎◌, inl, inr, ℕ, zero, suc, ◌*◌, ◌/◌, ◌%◌, ◌^◌, ◌≤◌, ◌<◌, ◌&&◌, ◌||◌, Bool, true, false, List, [], ◌∷◌, ◌++◌, codes, length, Some, refl, sym, ap, ◌∙◌, subst, arith}
-use Rattle.std.proofs.lemmas.Bool.Decides.{nat_tests}
+use Rattle.std.proofs.Common.{◌≡◌, ℕ, zero, ◌^◌, ◌<◌, ◌&&◌, Bool, List, [], ◌∷◌, ◌++◌, codes, Some, refl, sym, ap, ◌∙◌, subst, arith}
 use Rattle.std.proofs.lemmas.List.{map-append}
-use Rattle.std.proofs.lemmas.List.Elements.{All-contains_itself, Contains-append_left, Contains-append_right}
-use Rattle.std.proofs.lemmas.List.Sums.{list_all-from_AllPass}
-use Rattle.std.specs.Prelude.{◌==◌, option_map}
+use Rattle.std.proofs.lemmas.List.Elements.{Contains-append_left, Contains-append_right}
+use Rattle.std.specs.Prelude.{option_map}
 use Rattle.std.specs.Option.{option_or}
-use Rattle.std.specs.List.{AllByRecursion, Contains, list_all, list_any}
-use Rattle.std.specs.Cmp.Derive.{both_true}
+use Rattle.std.specs.List.{AllByRecursion, Contains, list_all}
 use Rattle.damon_types.specs.Space.{pages_of}
 use Rattle.damon_types.proofs.Lemmas.{all_parts}
 use Rattle.line_text.specs.Parts.{parts}
 use Rattle.line_text.proofs.Lemmas.{parts_some}
 use Rattle.live_commit.specs.declared.phase.Phase.TheVariants.{Idle}
-use Rattle.page_words.specs.declared.view.Entry.{Entry as Step}
-use Rattle.page_words.specs.declared.view.Entry.TheVariants.{Clear, Load, Gathered}
 use Rattle.page_words.specs.declared.view.Touch.{Touch}
-use Rattle.page_words.specs.Clears.{IsOdd, clear_passes_of, pass_of}
+use Rattle.page_words.specs.Clears.{pass_of}
 use Rattle.page_words.specs.Views.{touch}
 use Rattle.script_lines.specs.Lines.{lines_text}
 use Rattle.script_lines.specs.Words.{same_word}
 use Rattle.script_lines.proofs.Lemmas.{lines_text-append, parts_before}
-use Rattle.damon_control.specs.declared.live.TheConstants.{MAX_WORKERS}
 use Rattle.damon_control.specs.JournalHead.{head_lines}
 use Rattle.damon_control.specs.Live.{LiveValue}
 use Rattle.damon_control.specs.Script.{AtHeader}
-use Rattle.damon_control.specs.WriteBack.{IsWritable}
-use Rattle.run_journal.specs.declared.entry.CallAnswer.{CallAnswer}
 use Rattle.run_journal.specs.declared.entry.Entry.{Entry}
-use Rattle.run_journal.specs.declared.entry.Entry.TheVariants.{Call}
 use Rattle.run_journal.specs.declared.entry.Receipt.{Receipt}
 use Rattle.journal_text.specs.EntryLine.{after_call, after_entry, is_idle, said_entry, where_so}
 use Rattle.run_journal.specs.Growth.{longer}
 use Rattle.run_journal.specs.Lawful.{AreReceipts, IsLawful, Received, all_of, touches_of}
 use Rattle.journal_text.specs.Place.{AtLast, InEntries, InHead, InReceipts, JournalPlace, JournalRead}
 use Rattle.journal_text.specs.Reading.{line_after, said_from}
-use Rattle.run_journal.specs.Replay.{JournalValue, call_at, replay}
+use Rattle.run_journal.specs.Replay.{JournalValue, replay}
 use Rattle.run_journal.specs.Room.{nothing_said}
-use Rattle.journal_text.specs.Rules.{CallsInTurn, IsReadBack}
-use Rattle.run_journal.specs.Limits.{CanCall, TagsFit}
-use Rattle.journal_text.specs.SeenLine.{after_receipt, has_receipt, is_receipt, is_tag, was_cleared}
+use Rattle.journal_text.specs.Rules.{IsReadBack, IsSpellable}
+use Rattle.run_journal.specs.Limits.{TagsFit}
+use Rattle.journal_text.specs.SeenLine.{after_receipt, has_receipt}
 use Rattle.run_journal.specs.Steps.{steps}
 use Rattle.journal_text.specs.Text.{journal_lines, journal_text, last_text, seen_lines, settled_lines}
 use Rattle.journal_text.proofs.AllRead.{journal_read, no_calls}
-use Rattle.journal_text.proofs.Common.{Pieces, both_pieces, or_first, or_second, then_some}
+use Rattle.journal_text.proofs.Common.{Pieces, both_pieces, or_first, then_some}
 use Rattle.journal_text.proofs.EntriesRead.{so_far}
 use Rattle.journal_text.proofs.HeadRead.{head_read}
 use Rattle.journal_text.proofs.Leading.{found, leads_by, leads_to, said_after, said_all}
-use Rattle.journal_text.proofs.SeenRead.{IsRead, Pads, PlacesFit, workers_seen}
-use Rattle.journal_text.proofs.SeenSay.{padded_all}
+use Rattle.journal_text.proofs.SeenRead.{IsRead, PlacesFit, workers_seen}
+use Rattle.journal_text.proofs.SeenSay.{HaveReceipts, hits_decide, padded_all}
 
 -- ---- `receipts` and `settled`
 
@@ -58,52 +49,7 @@ receipts_begin v j idle =
     ap (λ ph. option_or (option_map (λ (x : Entry × List Bool). InEntries v (longer j x.0 x.1)) (said_entry (replay v j) ph (codes "receipts")))
     (option_or (where_so (same_word (codes "receipts") (codes "receipts") && is_idle ph) (InReceipts v j [])) (after_call v j (codes "receipts")))) idle
 
--- a number of a list is found there
-any_number : (n : ℕ) (ns : List ℕ) → Contains ns n → list_any (λ m. m == n) ns ≡ true
-any_number n [] has = absurd (omega (arith, has.1))
-any_number n (m ∷ ns) (zero, below, is) = let same : (m == n) ≡ true = grind (arith, nat_tests, is) in ap (λ b. b || list_any (λ k. k == n) ns) same
-any_number n (m ∷ ns) (suc k, below, is) = or_second (m == n) (list_any (λ k. k == n) ns) (any_number n ns (k, omega (arith, below), is))
-
--- and so is a receipt
-any_receipt : (page tag : ℕ) (rs : List Receipt) → Contains (touches_of rs) (touch page tag) → list_any (is_receipt page tag) rs ≡ true
-any_receipt page tag [] has = absurd (omega (arith, has.1))
-any_receipt page tag (r ∷ rs) (zero, below, is) =
-    let p : r.page ≡ page = ap (λ (t : Touch). t.page) is in
-    let t : r.tag ≡ tag = ap (λ (t : Touch). t.tag) is in
-    let one : (r.page == page) ≡ true = grind (arith, nat_tests, p) in
-    let two : (r.tag == tag) ≡ true = grind (arith, nat_tests, t) in
-    ap (λ b. b || list_any (is_receipt page tag) rs) (both_true one two)
-any_receipt page tag (r ∷ rs) (suc k, below, is) = or_second (is_receipt page tag r) (list_any (is_receipt page tag) rs) (any_receipt page tag rs (k, omega (arith, below), is))
-
--- each hit has a receipt
-abbrev HaveReceipts : List Step → List (List Receipt) → Type 0
-HaveReceipts done all = (page word : ℕ) → Contains done (Load page word) → IsOdd word → Received all page (pass_of word)
-
--- so each step passes the test
-hit_back : (done : List Step) (all : List (List Receipt)) → HaveReceipts done all → (s : Step) → Contains done s → has_receipt (all_of all) s ≡ true
-hit_back done all hits (Clear page pass) has = refl
-hit_back done all hits (Gathered worker touches) has = refl
-hit_back done all hits (Load page word) has = by (word == 2 * pass_of word) refl
-  where
-    parity : (word : ℕ) → (word == 2 * (word / 2)) ≡ false → word % 2 ≡ 1
-    parity word is = grind (arith, nat_tests)
-
-    by : (even : Bool) → (word == 2 * pass_of word) ≡ even → has_receipt (all_of all) (Load page word) ≡ true
-    by true is = ap (λ b. b || list_any (is_receipt page (pass_of word)) (all_of all)) is
-    by false is =
-        let odd : word % 2 ≡ 1 = parity word is in
-        ap (λ b. b || list_any (is_receipt page (pass_of word)) (all_of all)) is ∙ any_receipt page (pass_of word) (all_of all) (hits page word has odd)
-
--- and all of them do
-all_received : (done : List Step) (all : List (List Receipt)) → HaveReceipts done all → list_all (has_receipt (all_of all)) done ≡ true
-all_received done all hits = list_all-from_AllPass (has_receipt (all_of all)) done (λ k d below. hit_back done all hits _ (All-contains_itself done k d below))
-
 -- ---- receipts that can be read
-
--- a tag by the rules passes the test
-tag_back : (done : List Step) (page tag : ℕ) → (tag ≡ 0) ⊎ Contains (clear_passes_of page done) tag → is_tag done page tag ≡ true
-tag_back done page tag (inl none) = let zero_is : (tag == 0) ≡ true = grind (arith, nat_tests, none) in ap (λ b. b || was_cleared done page tag) zero_is
-tag_back done page tag (inr some) = or_second (tag == 0) (was_cleared done page tag) (any_number tag (clear_passes_of page done) some)
 
 -- all touches of some receipts are among those of all
 abbrev Among : List Receipt → List (List Receipt) → Type 0
@@ -115,7 +61,7 @@ worker_read : (v : LiveValue) (j : JournalValue) (all : List (List Receipt)) →
 worker_read v j all are [] among within tags = tt
 worker_read v j all are (r ∷ rs) among within tags =
     let has : Received all r.page r.tag = among (touch r.page r.tag) (zero, omega arith, refl) in (
-      record { page = within.0; tag = tags.0; named = tag_back (steps v j) r.page r.tag (are.name r.page r.tag has) },
+      record { page = within.0; tag = tags.0; named = are.name r.page r.tag has },
       worker_read v j all are rs (λ t some. among t (Contains-append_right (touch r.page r.tag ∷ []) (touches_of rs) t some)) within.1 tags.1,
     )
 
@@ -135,64 +81,6 @@ workers_read v j all are (rs ∷ some) among within tags =
 -- the lines after the head, up to `settled`
 abbrev pub body_lines : LiveValue → JournalValue → List (List Receipt) → List (List ℕ)
 body_lines v j all = journal_lines v j ++ codes "receipts" ∷ (seen_lines v.setup.space 0 all ++ codes "settled" ∷ [])
-
--- what the second law asks besides that a journal is lawful
-pub record CanBeRead (v : LiveValue) (j : JournalValue) (all : List (List Receipt)) : Type 0 where
-  pub setup : IsWritable v.seed v.setup
-  pub places : PlacesFit v.setup.space
-  pub can : CanCall v
-  pub turn : CallsInTurn j.entries
-  pub workers : length all ≤ MAX_WORKERS
-  pub tags : TagsFit all
-  pub lines : Pieces (body_lines v j all)
-
--- the lines of entries and receipts lead to the last lines
-record BodyLeads (v : LiveValue) (j : JournalValue) (all : List (List Receipt)) : Type 0 where
-  later : LiveValue
-  seed : later.seed ≡ v.seed
-  setup : later.setup ≡ v.setup
-  calls : (c i : ℕ) (answer : CallAnswer) → Contains j.entries (Call c i answer) → call_at later c i ≡ call_at v c i
-  behind : List (List Receipt)
-  pads : Pads behind all
-  last : last_text (replay later j).state ≡ last_text (replay v j).state
-  leads :
-      leads_to (InEntries (so_far v no_calls) nothing_said) (body_lines v j all)
-      ≡ Some (AtLast (record { live = later; journal = j; receipts = behind }) (parts 10 (last_text (replay later j).state)))
-
--- those of a lawful journal that can be read do
-body_leads : (v : LiveValue) (j : JournalValue) (all : List (List Receipt)) → IsLawful v j all → CanBeRead v j all → BodyLeads v j all
-body_leads v j all lawful can =
-    let entries = journal_read v can.can j lawful.journal can.turn in
-    let w = so_far v entries.later in
-    let are : AreReceipts (pages_of v.setup.space) (steps w j) all = subst (λ done. AreReceipts (pages_of v.setup.space) done all) (sym entries.steps_are) lawful.receipts in
-    let read = workers_read w j all are all (λ t has. has) are.within can.tags in
-    let none : List (List Receipt) = [] in
-    let seen = workers_seen w j can.places none none all 0 refl (omega (arith, can.workers)) (0, refl) are.rise read in
-    let idle : (replay w j).state.core.phase ≡ Idle = ap (λ s. s.core.phase) entries.state ∙ lawful.idle in
-    let same : all_of seen.behind ≡ all_of all = sym (padded_all seen.pads.0 seen.behind) ∙ ap all_of seen.pads.1 in
-    let hits : HaveReceipts (steps w j) seen.behind = λ page word has odd. subst (λ rs. Contains (touches_of rs) (touch page (pass_of word))) (sym same) (are.hits page word has odd) in
-    let said : JournalRead = record { live = w; journal = j; receipts = seen.behind } in
-    let wanted = parts 10 (last_text (replay w j).state) in
-    let settled = codes "settled" ∷ [] in
-    let after_entries = codes "receipts" ∷ (seen_lines v.setup.space 0 all ++ settled) in
-    let ends : after_receipt w j seen.behind (codes "settled") ≡ Some (AtLast said wanted) =
-    or_first (where_so (list_all (has_receipt (all_of seen.behind)) (steps w j)) (AtLast said wanted)) _ (AtLast said wanted)
-    (found (list_all (has_receipt (all_of seen.behind)) (steps w j)) (AtLast said wanted) (all_received (steps w j) seen.behind hits))
-    in
-    record {
-      later = w;
-      seed = refl;
-      setup = refl;
-      calls = entries.calls;
-      behind = seen.behind;
-      pads = seen.pads;
-      last = ap last_text entries.state;
-      leads =
-          entries.leads after_entries
-          ∙ leads_by (InEntries w j) (InReceipts w j []) (codes "receipts") (seen_lines v.setup.space 0 all ++ settled) (receipts_begin w j idle)
-          ∙ seen.leads settled
-          ∙ leads_by (InReceipts w j seen.behind) (AtLast said wanted) (codes "settled") [] ends;
-    }
 
 -- ---- the law
 
@@ -217,27 +105,44 @@ text_parts v j all front same first body =
     ap (λ t. parts 10 (t ++ text)) whole ∙ parts_before (front ++ lines) text (both_pieces front lines first body)
 
 -- the text of a lawful journal is read as that journal
-pub second_law : (v : LiveValue) (j : JournalValue) (all : List (List Receipt)) → IsLawful v j all → CanBeRead v j all → IsReadBack v j all
-second_law v j all lawful can =
+pub second_law : (v : LiveValue) (j : JournalValue) (all : List (List Receipt)) → IsLawful v j all → IsSpellable v j all → PlacesFit v.setup.space → Pieces (body_lines v j all) → IsReadBack v j all
+second_law v j all lawful can places pieces =
     let head = head_read v.seed v.setup can.setup in
-    let body = body_leads v j all lawful can in
-    let said : JournalRead = record { live = body.later; journal = j; receipts = body.behind } in
-    let wanted = parts 10 (last_text (replay body.later j).state) in
-    let some = parts_some 10 (last_text (replay body.later j).state) in
+    let entries = journal_read v can.calls j lawful.journal can.rules.turn in
+    let w = so_far v entries.later in
+    let are : AreReceipts (pages_of v.setup.space) (steps w j) all = subst (λ done. AreReceipts (pages_of v.setup.space) done all) (sym entries.steps_are) lawful.receipts in
+    let read = workers_read w j all are all (λ t has. has) are.within can.tags in
+    let none : List (List Receipt) = [] in
+    let seen = workers_seen w j places none none all 0 refl (omega (arith, can.rules.workers)) (0, refl) are.rise read in
+    let idle : (replay w j).state.core.phase ≡ Idle = ap (λ s. s.core.phase) entries.state ∙ lawful.idle in
+    let same : all_of seen.behind ≡ all_of all = sym (padded_all seen.pads.0 seen.behind) ∙ ap all_of seen.pads.1 in
+    let hits : HaveReceipts (steps w j) seen.behind = λ page word has odd. subst (λ rs. Contains (touches_of rs) (touch page (pass_of word))) (sym same) (are.hits page word has odd) in
+    let said : JournalRead = record { live = w; journal = j; receipts = seen.behind } in
+    let wanted = parts 10 (last_text (replay w j).state) in
+    let some = parts_some 10 (last_text (replay w j).state) in
     let lines = body_lines v j all in
+    let settled = codes "settled" ∷ [] in
+    let ends : after_receipt w j seen.behind (codes "settled") ≡ Some (AtLast said wanted) =
+    or_first (where_so (list_all (has_receipt (all_of seen.behind)) (steps w j)) (AtLast said wanted)) _ (AtLast said wanted)
+    (found (list_all (has_receipt (all_of seen.behind)) (steps w j)) (AtLast said wanted) ((hits_decide (steps w j) seen.behind).1 hits))
+    in
     let lead : leads_to (InHead AtHeader) (head.lines ++ lines) ≡ Some (AtLast said wanted) =
-    leads-both (InHead AtHeader) (InEntries (so_far v no_calls) nothing_said) head.lines lines head.lead ∙ body.leads
+    leads-both (InHead AtHeader) (InEntries (so_far v no_calls) nothing_said) head.lines lines head.lead
+    ∙ entries.leads (codes "receipts" ∷ (seen_lines v.setup.space 0 all ++ settled))
+    ∙ leads_by (InEntries w j) (InReceipts w j []) (codes "receipts") (seen_lines v.setup.space 0 all ++ settled) (receipts_begin w j idle)
+    ∙ seen.leads settled
+    ∙ leads_by (InReceipts w j seen.behind) (AtLast said wanted) (codes "settled") [] ends
     in
     let reach = said_after 1 (InHead AtHeader) (head.lines ++ lines) wanted (AtLast said wanted) some lead in
     record {
       said = said;
       read =
-          ap (said_from 1 (InHead AtHeader)) (text_parts v j all head.lines head.text head.pieces can.lines ∙ ap (λ t. (head.lines ++ lines) ++ parts 10 t) (sym body.last))
+          ap (said_from 1 (InHead AtHeader)) (text_parts v j all head.lines head.text head.pieces pieces ∙ ap (λ t. (head.lines ++ lines) ++ parts 10 t) (sym (ap last_text entries.state)))
           ∙ reach.1
           ∙ said_all reach.0 said wanted some;
-      seed = body.seed;
-      setup = body.setup;
+      seed = refl;
+      setup = refl;
       journal = refl;
-      calls = body.calls;
-      receipts = body.pads;
+      calls = entries.calls;
+      receipts = seen.pads;
     }

@@ -1,16 +1,17 @@
 -- The lines of receipts by the rules are read back.
-use Rattle.std.proofs.Common.{◌≡◌, ℕ, zero, suc, ◌+◌, ◌-◌, ◌^◌, ◌≤◌, ◌<◌, ◌||◌, not, Bool, true, false, List, [], ◌∷◌, ◌++◌, codes, decimal, length, map, nat_le, nat_lt, Some, None, Ok, refl, sym, ap, ◌∙◌, subst, append_assoc, append-nil, length-append, arith}
-use Rattle.std.proofs.lemmas.Bool.Decides.{nat_tests}
-use Rattle.std.proofs.lemmas.List.{length-replicate}
-use Rattle.std.proofs.lemmas.List.Elements.{All-head, All-tail}
-use Rattle.std.specs.Prelude.{◌==◌, All, option_and_then, option_map, replicate, slice_index_or, if◌then◌else◌}
-use Rattle.std.specs.List.{AllByRecursion, list_all}
+use Rattle.std.proofs.Common.{◌≡◌, ◌⊎◌, ℕ, zero, suc, ◌+◌, ◌-◌, ◌^◌, ◌≤◌, ◌<◌, true, List, [], ◌∷◌, ◌++◌, codes, decimal, length, map, Some, None, Ok, refl, sym, ap, ◌∙◌, subst, append_assoc, append-nil, length-append, arith}
+use Rattle.std.proofs.Math.ListN.{get_or-append}
+use Rattle.std.proofs.Math.Seq.{get_or-append_seam}
+use Rattle.std.proofs.lemmas.List.{length-replicate, map-append}
+use Rattle.std.specs.Prelude.{All, option_and_then, option_map, replicate, slice_index_or, if◌then◌else◌}
+use Rattle.std.specs.List.{AllByRecursion, AllPairs, Contains, list_all}
 use Rattle.std.specs.Cmp.Derive.{both_true}
 use Rattle.std.specs.Option.{ok_or}
 use Rattle.damon_types.specs.declared.space.Target.{Target}
 use Rattle.damon_types.specs.Space.{pages_of, place_of}
 use Rattle.line_text.specs.Address.{spelled_address}
 use Rattle.line_text.proofs.Lemmas.{address-spelled_address, number-decimal}
+use Rattle.page_words.specs.Clears.{clear_passes_of}
 use Rattle.page_words.specs.Views.{TagsRise, touch}
 use Rattle.script_lines.specs.declared.kind.ScriptKind.TheVariants.{Number}
 use Rattle.script_lines.specs.Refusal.{◌>>=◌}
@@ -23,14 +24,14 @@ use Rattle.journal_text.specs.EntryLine.{where_so}
 use Rattle.run_journal.specs.Lawful.{touches_of}
 use Rattle.journal_text.specs.Place.{InReceipts}
 use Rattle.run_journal.specs.Replay.{JournalValue}
-use Rattle.journal_text.specs.SeenLine.{PlaceFits, after_receipt, is_below, is_risen, is_tag, may_be_seen, receipts_so_far, seen_fields, seen_line, seen_of, with_receipt}
+use Rattle.journal_text.specs.SeenLine.{PlaceFits, after_receipt, may_be_seen, receipts_so_far, seen_fields, seen_line, seen_of, with_receipt}
 use Rattle.journal_text.specs.Spelled.{spelled_seen}
 use Rattle.run_journal.specs.Steps.{steps}
 use Rattle.journal_text.specs.Text.{seen_lines}
 use Rattle.journal_text.proofs.Common.{same_line, then-Ok}
 use Rattle.journal_text.proofs.Leading.{found, leads_by, leads_to}
 use Rattle.journal_text.proofs.PlainLines.{address_word, arguments-spaced, decimal_word, is_plain_word}
-use Rattle.journal_text.proofs.SeenSay.{Rises, padded_at}
+use Rattle.journal_text.proofs.SeenSay.{Rises, may_decides, padded_at}
 
 -- ---- one line
 
@@ -74,44 +75,22 @@ seen_back space w r fit worker tag =
 
 -- ---- what may come next
 
--- an element in the middle
-at_middle : {A : Type 0} (P : A → Type 0) (xs : List A) (y : A) (ys : List A) → All P (xs ++ y ∷ ys) → P y
-at_middle P [] y ys each = All-head P y ys each
-at_middle P (x ∷ xs) y ys each = at_middle P xs y ys (All-tail P x (xs ++ y ∷ ys) each)
+-- each element before another one in a list is related to it
+all_before : {X : Type 0} (R : X → X → Type 0) (xs : List X) (y : X) (ys : List X) → AllPairs R (xs ++ y ∷ ys) → All (λ x. R x y) xs
+all_before R xs y ys pairs k d below =
+    subst (R (slice_index_or xs k d)) (get_or-append_seam xs y ys d)
+    (subst (λ x. R x (slice_index_or (xs ++ y ∷ ys) (length xs) d)) (get_or-append xs (y ∷ ys) d k below) (pairs k (length xs) d below (omega (arith, length-append xs (y ∷ ys)))))
 
--- the touches of receipts with one in the middle
-touches_middle : (rs : List Receipt) (r : Receipt) (more : List Receipt) → touches_of (rs ++ r ∷ more) ≡ touches_of rs ++ touch r.page r.tag ∷ touches_of more
-touches_middle [] r more = refl
-touches_middle (q ∷ rs) r more = ap (λ ts. touch q.page q.tag ∷ ts) (touches_middle rs r more)
-
--- a receipt of which the tag does not fall passes the test
-rises_below : (q r : Receipt) → Rises (touch q.page q.tag) (touch r.page r.tag) → is_below q r ≡ true
-rises_below q r rises = by (q.page == r.page) refl
-  where
-    by : (same : Bool) → (q.page == r.page) ≡ same → is_below q r ≡ true
-    by false is = ap (λ b. not b || nat_le q.tag r.tag) is
-    by true is =
-        let page : q.page ≡ r.page = grind (arith, nat_tests, is) in
-        let le = rises page in
-        let test : nat_le q.tag r.tag ≡ true = grind (arith, nat_tests, le) in
-        ap (λ b. not b || nat_le q.tag r.tag) is ∙ test
-
--- after those before it in a list that rises
-risen_back : (rs : List Receipt) (r : Receipt) (more : List Receipt) → TagsRise (touches_of (rs ++ r ∷ more)) → is_risen rs r ≡ true
-risen_back [] r more pairs = refl
-risen_back (q ∷ rs) r more pairs =
-    let t = touch q.page q.tag in
-    let ts = touches_of (rs ++ r ∷ more) in
-    let first : All (Rises t) ts = λ k d below. pairs zero (suc k) d (omega arith) (omega (arith, below)) in
-    let later : TagsRise ts = λ i k d less below. pairs (suc i) (suc k) d (omega (arith, less)) (omega (arith, below)) in
-    let here : Rises t (touch r.page r.tag) = at_middle (Rises t) (touches_of rs) (touch r.page r.tag) (touches_of more) (subst (λ l. All (Rises t) l) (touches_middle rs r more) first) in
-    both_true (rises_below q r here) (risen_back rs r more later)
+-- no touch is above one after it in a list that rises
+risen_back : (rs : List Receipt) (r : Receipt) (more : List Receipt) → TagsRise (touches_of (rs ++ r ∷ more)) → All (λ t. Rises t (touch r.page r.tag)) (touches_of rs)
+risen_back rs r more pairs =
+    all_before Rises (touches_of rs) (touch r.page r.tag) (touches_of more) (subst (λ ts. AllPairs Rises ts) (map-append (λ q. touch q.page q.tag) rs (r ∷ more)) pairs)
 
 -- a receipt that can be read
 pub record IsRead (space : List Target) (v : LiveValue) (j : JournalValue) (r : Receipt) : Type 0 where
   pub page : r.page < pages_of space
   pub tag : r.tag < 2 ^ 64
-  pub named : is_tag (steps v j) r.page r.tag ≡ true
+  pub named : (r.tag ≡ 0) ⊎ Contains (clear_passes_of r.page (steps v j)) r.tag
 
 -- ---- lists of receipts
 
@@ -176,10 +155,10 @@ receipt_leads : (v : LiveValue) (j : JournalValue) → PlacesFit v.setup.space �
 receipt_leads v j fit before front rs r more few next rise read =
     let w = length front in
     let back = seen_back v.setup.space w r (fit r.page read.page) (omega (arith, few)) read.tag in
-    let one : nat_le (length before) (w + 1) ≡ true = grind (arith, nat_tests, next.few) in
-    let two : nat_lt w MAX_WORKERS ≡ true = grind (arith, nat_tests, few) in
-    let risen : is_risen (receipts_so_far before w) r ≡ true = ap (λ qs. is_risen qs r) next.those ∙ risen_back rs r more rise in
-    let may : may_be_seen (steps v j) before w r ≡ true = both_true (both_true one two) (both_true read.named risen) in
+    let risen : All (λ t. Rises t (touch r.page r.tag)) (touches_of (receipts_so_far before w)) =
+    subst (λ qs. All (λ t. Rises t (touch r.page r.tag)) (touches_of qs)) (sym next.those) (risen_back rs r more rise)
+    in
+    let may = (may_decides (steps v j) before w r).1 ((next.few, few), (read.named, risen)) in
     ap (λ o. option_and_then (λ (x : ℕ × Receipt). where_so (may_be_seen (steps v j) before x.0 x.1) (InReceipts v j (with_receipt before x.0 x.1))) o) back
     ∙ found (may_be_seen (steps v j) before w r) (InReceipts v j (with_receipt before w r)) may
 

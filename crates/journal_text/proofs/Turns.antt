@@ -1,6 +1,7 @@
 -- The calls of entries that are read are numbered in turn.
 use Rattle.std.proofs.Common.{◌≡◌, ℕ, zero, suc, ◌+◌, ◌<◌, List, [], ◌∷◌, ◌++◌, length, map, refl, sym, ap, ◌∙◌, subst, length-append, arith}
 use Rattle.std.specs.Prelude.{slice_index_or}
+use Rattle.std.specs.List.{fold}
 use Rattle.damon_control.specs.Live.{CallValue, LiveValue}
 use Rattle.run_journal.specs.declared.entry.CallAnswer.{CallAnswer}
 use Rattle.run_journal.specs.declared.entry.Entry.{Entry}
@@ -8,19 +9,14 @@ use Rattle.run_journal.specs.declared.entry.Entry.TheVariants.{Prepare, Check, V
 use Rattle.run_journal.specs.Growth.{added_to, calls_so_far, with_call_of}
 use Rattle.journal_text.specs.Rules.{CallsInTurn, InTurn, one_more}
 
--- the index of the next call of each controller after entries
-abbrev pub next_after : List ℕ → List Entry → List ℕ
-next_after next [] = next
-next_after next (Call controller index answer ∷ es) = next_after (one_more controller next) es
-next_after next (Prepare pass position ∷ es) = next_after next es
-next_after next (Check pass ∷ es) = next_after next es
-next_after next (Void pass ∷ es) = next_after next es
-next_after next (Aggregate tick position ∷ es) = next_after next es
+-- the index of the next call of each controller after an entry
+abbrev pub next_one : List ℕ → Entry → List ℕ
+next_one next (Call controller index answer) = one_more controller next
+next_one next _ = next
 
--- an entry is no call
-abbrev pub IsNoCall : Entry → Type 0
-IsNoCall (Call controller index answer) = ⊥
-IsNoCall _ = Unit {0}
+-- and after several
+abbrev pub next_after : List ℕ → List Entry → List ℕ
+next_after next es = fold next_one next es
 
 -- ---- entries and more entries
 
@@ -32,13 +28,9 @@ InTurn-append next (Check pass ∷ es) more front back = InTurn-append next es m
 InTurn-append next (Void pass ∷ es) more front back = InTurn-append next es more front back
 InTurn-append next (Aggregate tick position ∷ es) more front back = InTurn-append next es more front back
 
-next_after-append : (next : List ℕ) (es more : List Entry) → next_after next (es ++ more) ≡ next_after (next_after next es) more
-next_after-append next [] more = refl
-next_after-append next (Call c i a ∷ es) more = next_after-append (one_more c next) es more
-next_after-append next (Prepare pass position ∷ es) more = next_after-append next es more
-next_after-append next (Check pass ∷ es) more = next_after-append next es more
-next_after-append next (Void pass ∷ es) more = next_after-append next es more
-next_after-append next (Aggregate tick position ∷ es) more = next_after-append next es more
+next_after-append : (next : List ℕ) (es : List Entry) (e : Entry) → next_after next (es ++ e ∷ []) ≡ next_one (next_after next es) e
+next_after-append next [] e = refl
+next_after-append next (x ∷ es) e = next_after-append (next_one next x) es e
 
 -- ---- the calls of a script so far
 
@@ -51,29 +43,12 @@ pub record AreInTurn (v : LiveValue) (es : List Entry) : Type 0 where
   pub turn : CallsInTurn es
   pub next : next_after (0 ∷ 0 ∷ 0 ∷ 0 ∷ []) es ≡ counts v.controllers
 
-one_in_turn : (next : List ℕ) (e : Entry) → IsNoCall e → InTurn next (e ∷ [])
-one_in_turn next (Call c i a) other = absurd other
-one_in_turn next (Prepare pass position) other = tt
-one_in_turn next (Check pass) other = tt
-one_in_turn next (Void pass) other = tt
-one_in_turn next (Aggregate tick position) other = tt
-
-next_same : (next : List ℕ) (e : Entry) → IsNoCall e → next_after next (e ∷ []) ≡ next
-next_same next (Call c i a) other = absurd other
-next_same next (Prepare pass position) other = refl
-next_same next (Check pass) other = refl
-next_same next (Void pass) other = refl
-next_same next (Aggregate tick position) other = refl
-
 -- one more entry that is no call
-pub turn_same : (v : LiveValue) (es : List Entry) (e : Entry) → IsNoCall e → AreInTurn v es → AreInTurn v (es ++ e ∷ [])
-turn_same v es e other are =
+pub turn_same : (v : LiveValue) (es : List Entry) (e : Entry) → ((next : List ℕ) → InTurn next (e ∷ []) × (next_one next e ≡ next)) → AreInTurn v es → AreInTurn v (es ++ e ∷ [])
+turn_same v es e alone are =
     let none : List ℕ = 0 ∷ 0 ∷ 0 ∷ 0 ∷ [] in
-    let so_far = next_after none es in
-    record {
-      turn = InTurn-append none es (e ∷ []) are.turn (one_in_turn so_far e other);
-      next = next_after-append none es (e ∷ []) ∙ next_same so_far e other ∙ are.next;
-    }
+    let here = alone (next_after none es) in
+    record { turn = InTurn-append none es (e ∷ []) are.turn here.0; next = next_after-append none es e ∙ here.1 ∙ are.next }
 
 -- the numbers of calls, controller by controller
 pub counts-length : (lists : List (List CallValue)) → length (counts lists) ≡ length lists
@@ -102,5 +77,5 @@ turn_called v es c call answer few are =
     let own : InTurn (counts v.controllers) (e ∷ []) = (omega (arith, few, counts-length v.controllers), sym (counts-at v.controllers c), tt) in
     record {
       turn = InTurn-append none es (e ∷ []) are.turn (subst (λ (ns : List ℕ). InTurn ns (e ∷ [])) (sym are.next) own);
-      next = next_after-append none es (e ∷ []) ∙ ap (one_more c) are.next ∙ counts-added v.controllers c call;
+      next = next_after-append none es e ∙ ap (one_more c) are.next ∙ counts-added v.controllers c call;
     }

@@ -111,29 +111,13 @@ entry_own v r (Call controller index answer) = own_calls (call_at v controller i
 
 -- ---- the space stays
 
-clear_space : (ph : Phase) (s : State) → (by_clear ph s).core.space ≡ s.core.space
-clear_space Idle s = refl
-clear_space (Clearing k) s = refl
-clear_space Armed s = refl
-clear_space (Checking k) s = refl
-clear_space VoidPhase s = refl
-clear_space Due s = refl
-
-load_space : (ph : Phase) (hit : Bool) (s : State) → (by_load ph hit s).core.space ≡ s.core.space
-load_space Idle hit s = refl
-load_space (Clearing k) hit s = refl
-load_space Armed hit s = refl
-load_space (Checking k) hit s = refl
-load_space VoidPhase hit s = refl
-load_space Due hit s = refl
-
-observe_space : (ph : Phase) (s : State) → (by_observe ph s).core.space ≡ s.core.space
-observe_space Idle s = refl
-observe_space (Clearing k) s = refl
-observe_space Armed s = refl
-observe_space (Checking k) s = refl
-observe_space VoidPhase s = refl
-observe_space Due s = refl
+pass_space : (ph : Phase) (hit : Bool) (s : State) → ((by_clear ph s).core.space ≡ s.core.space) × ((by_load ph hit s).core.space ≡ s.core.space) × ((by_observe ph s).core.space ≡ s.core.space)
+pass_space Idle hit s = (refl, refl, refl)
+pass_space (Clearing k) hit s = (refl, refl, refl)
+pass_space Armed hit s = (refl, refl, refl)
+pass_space (Checking k) hit s = (refl, refl, refl)
+pass_space VoidPhase hit s = (refl, refl, refl)
+pass_space Due hit s = (refl, refl, refl)
 
 commit_space : (r : Result (Unit {0}) CommitFault) (parts : CommitValue) (s : State) → (if_accepted r (committed parts s) s).core.space ≡ s.core.space
 commit_space (Ok t) parts s = refl
@@ -142,9 +126,9 @@ commit_space (Err fault) parts s = refl
 after_space : (s : State) (e : Event) → (after s e).core.space ≡ s.core.space
 after_space s (touch page) = refl
 after_space s (prepare words) = refl
-after_space s clear = clear_space s.core.phase s
-after_space s (load hit) = load_space s.core.phase hit s
-after_space s observe = observe_space s.core.phase s
+after_space s clear = (pass_space s.core.phase false s).0
+after_space s (load hit) = (pass_space s.core.phase hit s).1
+after_space s observe = (pass_space s.core.phase false s).2
 after_space s (aggregate words) = refl
 after_space s (commit parts) = commit_space (check_of parts s.core) parts s
 after_space s show = refl

@@ -1,7 +1,7 @@
 -- A journal with one entry more, and with the results of its loads.
-use Rattle.std.proofs.Common.{◌≡◌, ℕ, zero, suc, ◌≤◌, Bool, List, [], ◌∷◌, ◌++◌, drop, length, take, refl, sym, ap, ◌∙◌, subst, append_assoc, length-append, arith}
+use Rattle.std.proofs.Common.{◌≡◌, Bool, List, [], ◌∷◌, ◌++◌, drop, take, refl, sym, ap, ◌∙◌, subst, append_assoc, length-append, arith}
 use Rattle.std.specs.Prelude.{map}
-use Rattle.std.proofs.lemmas.List.{append-nil}
+use Rattle.std.proofs.lemmas.List.{append-nil, drop-append-le, take-append-le}
 use Rattle.damon_core.specs.Event.{load, observe}
 use Rattle.damon_core.specs.Reached.{run}
 use Rattle.damon_core.specs.State.{row_count}
@@ -13,50 +13,36 @@ use Rattle.run_journal.specs.Replay.{EntriesFit, EntryFits, IsJournalOf, Journal
 use Rattle.page_words.specs.PassSteps.{load_steps}
 use Rattle.run_journal.specs.Steps.{entry_steps, steps, steps_from}
 
-pub take_front : (n : ℕ) (xs ys : List Bool) → n ≤ length xs → take n (xs ++ ys) ≡ take n xs
-take_front zero xs ys few = refl
-take_front (suc n) [] ys few = absurd (omega (arith, few))
-take_front (suc n) (x ∷ xs) ys few = ap (λ l. x ∷ l) (take_front n xs ys (omega (arith, few)))
-
-drop_front : (n : ℕ) (xs ys : List Bool) → n ≤ length xs → drop n (xs ++ ys) ≡ drop n xs ++ ys
-drop_front zero xs ys few = refl
-drop_front (suc n) [] ys few = absurd (omega (arith, few))
-drop_front (suc n) (x ∷ xs) ys few = drop_front n xs ys (omega (arith, few))
-
 -- with more results behind those that are left
 abbrev pub with_more : List Bool → Replayed → Replayed
 with_more more r = record r { bits = r.bits ++ more }
 
-fits-more : (v : LiveValue) (more : List Bool) (r : Replayed) (e : Entry) → EntryFits v r e → EntryFits v (with_more more r) e
-fits-more v more r (Prepare pass pos) fits = fits
-fits-more v more r (Check pass) fits = (fits.0, fits.1, omega (arith, fits.2, length-append r.bits more))
-fits-more v more r (Void pass) fits = fits
-fits-more v more r (Aggregate tick pos) fits = fits
-fits-more v more r (Call controller index answer) fits = fits
+-- an entry with more results behind
+pub record IsSame (v : LiveValue) (more : List Bool) (r : Replayed) (e : Entry) : Type 0 where
+  pub fits : EntryFits v (with_more more r) e
+  pub next : carried v (with_more more r) e ≡ with_more more (carried v r e)
+  pub steps_are : entry_steps v (with_more more r) e ≡ entry_steps v r e
+  pub sizes_are : check_size (with_more more r) e ≡ check_size r e
+
+pub one_with_more : (v : LiveValue) (more : List Bool) (r : Replayed) (e : Entry) → EntryFits v r e → IsSame v more r e
+one_with_more v more r (Prepare pass pos) fits = record { fits = fits; next = refl; steps_are = refl; sizes_are = refl }
+one_with_more v more r (Check pass) fits =
+    let n = row_count r.state.core in
+    let front : take n (r.bits ++ more) ≡ take n r.bits = take-append-le n r.bits more fits.2 in
+    record {
+      fits = (fits.0, fits.1, omega (arith, fits.2, length-append r.bits more));
+      next =
+          ap (λ bs. record (carried v r (Check pass)) { state = run r.state (map (λ bit. load bit) bs ++ observe ∷ []); bits = drop n (r.bits ++ more) }) front
+          ∙ ap (λ bs. record (carried v r (Check pass)) { bits = bs }) (drop-append-le n r.bits more fits.2);
+      steps_are = ap (load_steps pass r.state.core.picks) front;
+      sizes_are = refl;
+    }
+one_with_more v more r (Void pass) fits = record { fits = fits; next = refl; steps_are = refl; sizes_are = refl }
+one_with_more v more r (Aggregate tick pos) fits = record { fits = fits; next = refl; steps_are = refl; sizes_are = refl }
+one_with_more v more r (Call controller index answer) fits = record { fits = fits; next = refl; steps_are = refl; sizes_are = refl }
 
 pub carried-more : (v : LiveValue) (more : List Bool) (r : Replayed) (e : Entry) → EntryFits v r e → carried v (with_more more r) e ≡ with_more more (carried v r e)
-carried-more v more r (Prepare pass pos) fits = refl
-carried-more v more r (Check pass) fits =
-    let n = row_count r.state.core in
-    ap (λ bs. record (carried v r (Check pass)) { state = run r.state (map (λ bit. load bit) bs ++ observe ∷ []); bits = drop n (r.bits ++ more) }) (take_front n r.bits more fits.2)
-    ∙ ap (λ bs. record (carried v r (Check pass)) { bits = bs }) (drop_front n r.bits more fits.2)
-carried-more v more r (Void pass) fits = refl
-carried-more v more r (Aggregate tick pos) fits = refl
-carried-more v more r (Call controller index answer) fits = refl
-
-steps-more : (v : LiveValue) (more : List Bool) (r : Replayed) (e : Entry) → EntryFits v r e → entry_steps v (with_more more r) e ≡ entry_steps v r e
-steps-more v more r (Prepare pass pos) fits = refl
-steps-more v more r (Check pass) fits = ap (load_steps pass r.state.core.picks) (take_front (row_count r.state.core) r.bits more fits.2)
-steps-more v more r (Void pass) fits = refl
-steps-more v more r (Aggregate tick pos) fits = refl
-steps-more v more r (Call controller index answer) fits = refl
-
-sizes-more : (v : LiveValue) (more : List Bool) (r : Replayed) (e : Entry) → check_size (with_more more r) e ≡ check_size r e
-sizes-more v more r (Prepare pass pos) = refl
-sizes-more v more r (Check pass) = refl
-sizes-more v more r (Void pass) = refl
-sizes-more v more r (Aggregate tick pos) = refl
-sizes-more v more r (Call controller index answer) = refl
+carried-more v more r e fits = (one_with_more v more r e fits).next
 
 -- entries with more results behind
 pub record AreSame (v : LiveValue) (more : List Bool) (r : Replayed) (es : List Entry) : Type 0 where
@@ -68,13 +54,13 @@ pub record AreSame (v : LiveValue) (more : List Bool) (r : Replayed) (es : List 
 pub same_with_more : (v : LiveValue) (more : List Bool) (r : Replayed) (es : List Entry) → EntriesFit v r es → AreSame v more r es
 same_with_more v more r [] fit = record { fit = tt; is = refl; steps_are = refl; sizes_are = refl }
 same_with_more v more r (e ∷ es) fit =
-    let next = carried-more v more r e fit.0 in
+    let here = one_with_more v more r e fit.0 in
     let rest = same_with_more v more (carried v r e) es fit.1 in
     record {
-      fit = (fits-more v more r e fit.0, subst (λ x. EntriesFit v x es) (sym next) rest.fit);
-      is = ap (λ x. replay_from v x es) next ∙ rest.is;
-      steps_are = ap (λ x. entry_steps v (with_more more r) e ++ steps_from v x es) next ∙ (ap (λ l. l ++ steps_from v (with_more more (carried v r e)) es) (steps-more v more r e fit.0) ∙ ap (λ l. entry_steps v r e ++ l) rest.steps_are);
-      sizes_are = ap (λ x. check_size (with_more more r) e ++ check_sizes_from v x es) next ∙ (ap (λ l. l ++ check_sizes_from v (with_more more (carried v r e)) es) (sizes-more v more r e) ∙ ap (λ l. check_size r e ++ l) rest.sizes_are);
+      fit = (here.fits, subst (λ x. EntriesFit v x es) (sym here.next) rest.fit);
+      is = ap (λ x. replay_from v x es) here.next ∙ rest.is;
+      steps_are = (λ i. here.steps_are i ++ steps_from v (here.next i) es) ∙ ap (λ l. entry_steps v r e ++ l) rest.steps_are;
+      sizes_are = (λ i. here.sizes_are i ++ check_sizes_from v (here.next i) es) ∙ ap (λ l. check_size r e ++ l) rest.sizes_are;
     }
 
 pub replay_from-snoc : (v : LiveValue) (r : Replayed) (es : List Entry) (e : Entry) → replay_from v r (es ++ e ∷ []) ≡ carried v (replay_from v r es) e

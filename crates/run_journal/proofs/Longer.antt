@@ -80,28 +80,22 @@ with_calls v calls = record v { controllers = calls }
 abbrev pub KeepsCalls : LiveValue → List (List CallValue) → Type 0
 KeepsCalls v calls = (c i : ℕ) (x : CallValue) → call_at v c i ≡ Some x → called_in calls c i ≡ Some x
 
--- an entry fits where there are more calls
-fits-kept : (v : LiveValue) (calls : List (List CallValue)) → KeepsCalls v calls → (r : Replayed) (e : Entry) → EntryFits v r e → EntryFits (with_calls v calls) r e
-fits-kept v calls keeps r (Prepare pass pos) fits = fits
-fits-kept v calls keeps r (Check pass) fits = fits
-fits-kept v calls keeps r (Void pass) fits = fits
-fits-kept v calls keeps r (Aggregate tick pos) fits = fits
-fits-kept v calls keeps r (Call c i answer) fits = (fits.0, (fits.1.0, keeps c i fits.1.0 fits.1.1, fits.1.2))
-
--- an entry of two scripts does the same
+-- an entry of two scripts fits, and does the same
 pub record SameEntry (v w : LiveValue) (r : Replayed) (e : Entry) : Type 0 where
+  pub fits : EntryFits w r e
   pub next : carried w r e ≡ carried v r e
   pub done : entry_steps w r e ≡ entry_steps v r e
 
--- and does the same there
+-- so it does where there are more calls
 pub entry-kept : (v : LiveValue) (calls : List (List CallValue)) → KeepsCalls v calls → (r : Replayed) (e : Entry) → EntryFits v r e → SameEntry v (with_calls v calls) r e
-entry-kept v calls keeps r (Prepare pass pos) fits = record { next = refl; done = refl }
-entry-kept v calls keeps r (Check pass) fits = record { next = refl; done = refl }
-entry-kept v calls keeps r (Void pass) fits = record { next = refl; done = refl }
-entry-kept v calls keeps r (Aggregate tick pos) fits = record { next = refl; done = refl }
+entry-kept v calls keeps r (Prepare pass pos) fits = record { fits = fits; next = refl; done = refl }
+entry-kept v calls keeps r (Check pass) fits = record { fits = fits; next = refl; done = refl }
+entry-kept v calls keeps r (Void pass) fits = record { fits = fits; next = refl; done = refl }
+entry-kept v calls keeps r (Aggregate tick pos) fits = record { fits = fits; next = refl; done = refl }
 entry-kept v calls keeps r (Call c i answer) fits =
     let same : called_in calls c i ≡ call_at v c i = keeps c i fits.1.0 fits.1.1 ∙ sym fits.1.1 in
     record {
+      fits = (fits.0, (fits.1.0, keeps c i fits.1.0 fits.1.1, fits.1.2));
       next = ap (λ o. record (carried v r (Call c i answer)) { state = run r.state (option_map_or (λ call. call_event call ∷ []) o []) }) same;
       done = refl;
     }
@@ -121,9 +115,9 @@ entries-kept v calls keeps r (e ∷ es) fit =
     let here = entry-kept v calls keeps r e fit.0 in
     let rest = entries-kept v calls keeps (carried v r e) es fit.1 in
     record {
-      fit = (fits-kept v calls keeps r e fit.0, subst (λ x. EntriesFit w x es) (sym here.next) rest.fit);
+      fit = (here.fits, subst (λ x. EntriesFit w x es) (sym here.next) rest.fit);
       is = ap (λ x. replay_from w x es) here.next ∙ rest.is;
-      steps_are = ap (λ x. entry_steps w r e ++ steps_from w x es) here.next ∙ (ap (λ l. l ++ steps_from w (carried v r e) es) here.done ∙ ap (λ l. entry_steps v r e ++ l) rest.steps_are);
+      steps_are = (λ i. here.done i ++ steps_from w (here.next i) es) ∙ ap (λ l. entry_steps v r e ++ l) rest.steps_are;
       sizes_are = ap (λ x. check_size r e ++ check_sizes_from w x es) here.next ∙ ap (λ l. check_size r e ++ l) rest.sizes_are;
     }
 

@@ -98,15 +98,15 @@ entries_fit v known [] passes r far fit most placed = tt
 entries_fit v known (e ∷ es) passes r far fit most placed =
     let here = known.in_phase r.state far.reached in
     let rows : row_count r.state.core ≤ 4096 = omega (arith, here.few, far.within.0, known.cap) in
-    let counts = entry_counts v r e here.some rows (omega (arith, far.within.1, known.cap)) fit.0 in
+    let counts = entry_counts v r e here.some fit.0 in
     let sums = sum_by-cons prepares e es in
     let reached = carried_reached v r e here.some far.reached fit.0 in
     let within = run_within v.setup.cap r.state (entry_events v r e) far.within in
     let next : IsSoFar v.setup.cap (passes + prepares e) (carried v r e) = record {
       reached = reached;
       within = within;
-      passes_are = omega (arith, counts.passes, far.passes_are);
-      words_few = omega (arith, counts.words_few, far.words_few);
+      passes_are = omega (arith, counts.begun, far.passes_are);
+      words_few = omega (arith, counts.words_few rows (omega (arith, far.within.1, known.cap)), far.words_few);
     } in (
       entry_fits v known passes r e far fit.0 (omega (arith, most)) placed.0 (known.in_phase (carried v r e).state reached) within,
       entries_fit v known es (passes + prepares e) (carried v r e) next fit.1 (omega (arith, most, sums)) placed.1,

@@ -33,108 +33,40 @@ use Rattle.damon_core.proofs.Lemmas.{run_served, serve_now, with_cost, with_metr
 
 -- ---- what notes tell
 
-pub was_hit-untouched : (notes : List Note) (n k : ℕ) → was_hit (filter is_no_touch notes) n k ≡ was_hit notes n k
-was_hit-untouched [] n k = refl
-was_hit-untouched (touched p ∷ notes) n k = was_hit-untouched notes n k
-was_hit-untouched (cleared m j p ∷ notes) n k = was_hit-untouched notes n k
-was_hit-untouched (checked m j p h ∷ notes) n k = ap (λ b. ((m == n) && ((j == k) && h)) || b) (was_hit-untouched notes n k)
-was_hit-untouched (finished m rows ∷ notes) n k = was_hit-untouched notes n k
-was_hit-untouched (voided m ∷ notes) n k = was_hit-untouched notes n k
-was_hit-untouched (set i scheme ∷ notes) n k = was_hit-untouched notes n k
-was_hit-untouched (dropped i ∷ notes) n k = was_hit-untouched notes n k
-was_hit-untouched (metric value ∷ notes) n k = was_hit-untouched notes n k
-was_hit-untouched (turned i tick ∷ notes) n k = was_hit-untouched notes n k
-was_hit-untouched (ran i tick tried runs exceeds ∷ notes) n k = was_hit-untouched notes n k
-was_hit-untouched (cost i nanos ∷ notes) n k = was_hit-untouched notes n k
+-- two lists of notes tell the same of hits, and of a slot its scheme, its metrics, its start, its charge, its pages and its time
+abbrev TellSame : List Note → List Note → ℕ → ℕ → ℕ → Type 0
+TellSame ns ms n k slot =
+    (was_hit ns n k ≡ was_hit ms n k)
+    × (scheme_of ns slot ≡ scheme_of ms slot)
+    × (metrics_of ns slot ≡ metrics_of ms slot)
+    × (start_of ns slot ≡ start_of ms slot)
+    × (charged_of ns slot ≡ charged_of ms slot)
+    × (pages_of_runs ns slot ≡ pages_of_runs ms slot)
+    × (nanos_measured ns slot ≡ nanos_measured ms slot)
 
-pub scheme_of-untouched : (notes : List Note) (slot : ℕ) → scheme_of (filter is_no_touch notes) slot ≡ scheme_of notes slot
-scheme_of-untouched [] slot = refl
-scheme_of-untouched (touched p ∷ notes) slot = scheme_of-untouched notes slot
-scheme_of-untouched (cleared m j p ∷ notes) slot = scheme_of-untouched notes slot
-scheme_of-untouched (checked m j p h ∷ notes) slot = scheme_of-untouched notes slot
-scheme_of-untouched (finished m rows ∷ notes) slot = scheme_of-untouched notes slot
-scheme_of-untouched (voided m ∷ notes) slot = scheme_of-untouched notes slot
-scheme_of-untouched (set i scheme ∷ notes) slot = ap (λ o. if i == slot then Some scheme else o) (scheme_of-untouched notes slot)
-scheme_of-untouched (dropped i ∷ notes) slot = ap (λ o. if i == slot then None else o) (scheme_of-untouched notes slot)
-scheme_of-untouched (metric value ∷ notes) slot = scheme_of-untouched notes slot
-scheme_of-untouched (turned i tick ∷ notes) slot = scheme_of-untouched notes slot
-scheme_of-untouched (ran i tick tried runs exceeds ∷ notes) slot = scheme_of-untouched notes slot
-scheme_of-untouched (cost i nanos ∷ notes) slot = scheme_of-untouched notes slot
-
-pub metrics_of-untouched : (notes : List Note) (slot : ℕ) → metrics_of (filter is_no_touch notes) slot ≡ metrics_of notes slot
-metrics_of-untouched [] slot = refl
-metrics_of-untouched (touched p ∷ notes) slot = metrics_of-untouched notes slot
-metrics_of-untouched (cleared m j p ∷ notes) slot = metrics_of-untouched notes slot
-metrics_of-untouched (checked m j p h ∷ notes) slot = metrics_of-untouched notes slot
-metrics_of-untouched (finished m rows ∷ notes) slot = metrics_of-untouched notes slot
-metrics_of-untouched (voided m ∷ notes) slot = metrics_of-untouched notes slot
-metrics_of-untouched (set i scheme ∷ notes) slot = ap (λ l. if i == slot then [] else l) (metrics_of-untouched notes slot)
-metrics_of-untouched (dropped i ∷ notes) slot = metrics_of-untouched notes slot
-metrics_of-untouched (metric value ∷ notes) slot = ap (λ l. l ++ value ∷ []) (metrics_of-untouched notes slot)
-metrics_of-untouched (turned i tick ∷ notes) slot = metrics_of-untouched notes slot
-metrics_of-untouched (ran i tick tried runs exceeds ∷ notes) slot = metrics_of-untouched notes slot
-metrics_of-untouched (cost i nanos ∷ notes) slot = metrics_of-untouched notes slot
-
-pub start_of-untouched : (notes : List Note) (slot : ℕ) → start_of (filter is_no_touch notes) slot ≡ start_of notes slot
-start_of-untouched [] slot = refl
-start_of-untouched (touched p ∷ notes) slot = start_of-untouched notes slot
-start_of-untouched (cleared m j p ∷ notes) slot = start_of-untouched notes slot
-start_of-untouched (checked m j p h ∷ notes) slot = start_of-untouched notes slot
-start_of-untouched (finished m rows ∷ notes) slot = start_of-untouched notes slot
-start_of-untouched (voided m ∷ notes) slot = start_of-untouched notes slot
-start_of-untouched (set i scheme ∷ notes) slot = start_of-untouched notes slot
-start_of-untouched (dropped i ∷ notes) slot = start_of-untouched notes slot
-start_of-untouched (metric value ∷ notes) slot = start_of-untouched notes slot
-start_of-untouched (turned i tick ∷ notes) slot = ap (λ t. if i == slot then tick else t) (start_of-untouched notes slot)
-start_of-untouched (ran i tick tried runs exceeds ∷ notes) slot = start_of-untouched notes slot
-start_of-untouched (cost i nanos ∷ notes) slot = start_of-untouched notes slot
-
-pub charged_of-untouched : (notes : List Note) (slot : ℕ) → charged_of (filter is_no_touch notes) slot ≡ charged_of notes slot
-charged_of-untouched [] slot = refl
-charged_of-untouched (touched p ∷ notes) slot = charged_of-untouched notes slot
-charged_of-untouched (cleared m j p ∷ notes) slot = charged_of-untouched notes slot
-charged_of-untouched (checked m j p h ∷ notes) slot = charged_of-untouched notes slot
-charged_of-untouched (finished m rows ∷ notes) slot = charged_of-untouched notes slot
-charged_of-untouched (voided m ∷ notes) slot = charged_of-untouched notes slot
-charged_of-untouched (set i scheme ∷ notes) slot = charged_of-untouched notes slot
-charged_of-untouched (dropped i ∷ notes) slot = charged_of-untouched notes slot
-charged_of-untouched (metric value ∷ notes) slot = charged_of-untouched notes slot
-charged_of-untouched (turned i tick ∷ notes) slot = ap (λ c. if i == slot then 0 else c) (charged_of-untouched notes slot)
-charged_of-untouched (ran i tick tried runs exceeds ∷ notes) slot = ap (λ c. if i == slot then c + pages_in runs else c) (charged_of-untouched notes slot)
-charged_of-untouched (cost i nanos ∷ notes) slot = charged_of-untouched notes slot
-
-pages_of_runs-untouched : (notes : List Note) (slot : ℕ) → pages_of_runs (filter is_no_touch notes) slot ≡ pages_of_runs notes slot
-pages_of_runs-untouched [] slot = refl
-pages_of_runs-untouched (touched p ∷ notes) slot = pages_of_runs-untouched notes slot
-pages_of_runs-untouched (cleared m j p ∷ notes) slot = pages_of_runs-untouched notes slot
-pages_of_runs-untouched (checked m j p h ∷ notes) slot = pages_of_runs-untouched notes slot
-pages_of_runs-untouched (finished m rows ∷ notes) slot = pages_of_runs-untouched notes slot
-pages_of_runs-untouched (voided m ∷ notes) slot = pages_of_runs-untouched notes slot
-pages_of_runs-untouched (set i scheme ∷ notes) slot = pages_of_runs-untouched notes slot
-pages_of_runs-untouched (dropped i ∷ notes) slot = pages_of_runs-untouched notes slot
-pages_of_runs-untouched (metric value ∷ notes) slot = pages_of_runs-untouched notes slot
-pages_of_runs-untouched (turned i tick ∷ notes) slot = pages_of_runs-untouched notes slot
-pages_of_runs-untouched (ran i tick tried runs exceeds ∷ notes) slot = ap (λ c. if i == slot then c + pages_in runs else c) (pages_of_runs-untouched notes slot)
-pages_of_runs-untouched (cost i nanos ∷ notes) slot = pages_of_runs-untouched notes slot
-
-nanos_measured-untouched : (notes : List Note) (slot : ℕ) → nanos_measured (filter is_no_touch notes) slot ≡ nanos_measured notes slot
-nanos_measured-untouched [] slot = refl
-nanos_measured-untouched (touched p ∷ notes) slot = nanos_measured-untouched notes slot
-nanos_measured-untouched (cleared m j p ∷ notes) slot = nanos_measured-untouched notes slot
-nanos_measured-untouched (checked m j p h ∷ notes) slot = nanos_measured-untouched notes slot
-nanos_measured-untouched (finished m rows ∷ notes) slot = nanos_measured-untouched notes slot
-nanos_measured-untouched (voided m ∷ notes) slot = nanos_measured-untouched notes slot
-nanos_measured-untouched (set i scheme ∷ notes) slot = nanos_measured-untouched notes slot
-nanos_measured-untouched (dropped i ∷ notes) slot = nanos_measured-untouched notes slot
-nanos_measured-untouched (metric value ∷ notes) slot = nanos_measured-untouched notes slot
-nanos_measured-untouched (turned i tick ∷ notes) slot = nanos_measured-untouched notes slot
-nanos_measured-untouched (ran i tick tried runs exceeds ∷ notes) slot = nanos_measured-untouched notes slot
-nanos_measured-untouched (cost i nanos ∷ notes) slot = ap (λ c. if i == slot then c + nanos else c) (nanos_measured-untouched notes slot)
+-- so do notes without those of touches
+told : (notes : List Note) (n k slot : ℕ) → TellSame (filter is_no_touch notes) notes n k slot
+told [] n k slot = (refl, refl, refl, refl, refl, refl, refl)
+told (touched p ∷ notes) n k slot = told notes n k slot
+told (cleared m j p ∷ notes) n k slot = told notes n k slot
+told (checked m j p h ∷ notes) n k slot = let t = told notes n k slot in (ap (λ b. ((m == n) && ((j == k) && h)) || b) t.0, t.1, t.2, t.3, t.4, t.5, t.6)
+told (finished m rows ∷ notes) n k slot = told notes n k slot
+told (voided m ∷ notes) n k slot = told notes n k slot
+told (set i scheme ∷ notes) n k slot = let t = told notes n k slot in (t.0, ap (λ o. if i == slot then Some scheme else o) t.1, ap (λ l. if i == slot then [] else l) t.2, t.3, t.4, t.5, t.6)
+told (dropped i ∷ notes) n k slot = let t = told notes n k slot in (t.0, ap (λ o. if i == slot then None else o) t.1, t.2, t.3, t.4, t.5, t.6)
+told (metric value ∷ notes) n k slot = let t = told notes n k slot in (t.0, t.1, ap (λ l. l ++ value ∷ []) t.2, t.3, t.4, t.5, t.6)
+told (turned i tick ∷ notes) n k slot =
+    let t = told notes n k slot in
+    (t.0, t.1, t.2, ap (λ m. if i == slot then tick else m) t.3, ap (λ c. if i == slot then 0 else c) t.4, t.5, t.6)
+told (ran i tick tried runs exceeds ∷ notes) n k slot =
+    let t = told notes n k slot in
+    (t.0, t.1, t.2, t.3, ap (λ c. if i == slot then c + pages_in runs else c) t.4, ap (λ c. if i == slot then c + pages_in runs else c) t.5, t.6)
+told (cost i nanos ∷ notes) n k slot = let t = told notes n k slot in (t.0, t.1, t.2, t.3, t.4, t.5, ap (λ c. if i == slot then c + nanos else c) t.6)
 
 cost_of-untouched : (notes : List Note) (slot : ℕ) → cost_of (filter is_no_touch notes) slot ≡ cost_of notes slot
 cost_of-untouched notes slot =
-    ap (λ n. record { pages = n; nanos = min (nanos_measured (filter is_no_touch notes) slot) (2 ^ 64 - 1) }) (pages_of_runs-untouched notes slot)
-    ∙ ap (λ n. record { pages = pages_of_runs notes slot; nanos = min n (2 ^ 64 - 1) }) (nanos_measured-untouched notes slot)
+    ap (λ n. record { pages = n; nanos = min (nanos_measured (filter is_no_touch notes) slot) (2 ^ 64 - 1) }) (told notes 0 0 slot).5
+    ∙ ap (λ n. record { pages = pages_of_runs notes slot; nanos = min n (2 ^ 64 - 1) }) (told notes 0 0 slot).6
 
 -- ---- serving slots
 
@@ -150,7 +82,7 @@ with_turn-untouched : (slot tick : ℕ) (quota : Option Quota) (notes : List Not
 with_turn-untouched slot tick None notes = refl
 with_turn-untouched slot tick (Some q) notes =
     turned_if (has_ended q (start_of notes slot) tick) slot tick notes
-    ∙ ap (λ start. cond (has_ended q start tick) (turned slot tick ∷ filter is_no_touch notes) (filter is_no_touch notes)) (sym (start_of-untouched notes slot))
+    ∙ ap (λ start. cond (has_ended q start tick) (turned slot tick ∷ filter is_no_touch notes) (filter is_no_touch notes)) (sym (told notes 0 0 slot).3)
 
 -- a slot served by these facts of the notes
 by_facts : ℕ → List Target → ℕ → ℕ → RegionList → Scheme → Bool → Cost → ℕ → List Note → Serving
@@ -169,13 +101,13 @@ unfolding by_facts
 serve_now-untouched slot space aggr tick regions now scheme =
     let bare = filter is_no_touch now in
     by_facts-untouched slot space aggr tick regions scheme (is_active_in now slot scheme) (cost_of now slot) (charged_of now slot) now
-    ∙ ap (λ ms. by_facts slot space aggr tick regions scheme (is_active scheme.marks ms) (cost_of now slot) (charged_of now slot) bare) (sym (metrics_of-untouched now slot))
+    ∙ ap (λ ms. by_facts slot space aggr tick regions scheme (is_active scheme.marks ms) (cost_of now slot) (charged_of now slot) bare) (sym (told now 0 0 slot).2)
     ∙ ap (λ spent. by_facts slot space aggr tick regions scheme (is_active_in bare slot scheme) spent (charged_of now slot) bare) (sym (cost_of-untouched now slot))
-    ∙ ap (λ c. by_facts slot space aggr tick regions scheme (is_active_in bare slot scheme) (cost_of bare slot) c bare) (sym (charged_of-untouched now slot))
+    ∙ ap (λ c. by_facts slot space aggr tick regions scheme (is_active_in bare slot scheme) (cost_of bare slot) c bare) (sym (told now 0 0 slot).4)
 
 serve_slot-untouched : (slot : ℕ) (space : List Target) (aggr tick : ℕ) (regions : RegionList) (notes : List Note) → without (serve_slot slot space aggr tick regions notes) ≡ serve_slot slot space aggr tick regions (filter is_no_touch notes)
 unfolding without
-serve_slot-untouched slot space aggr tick regions notes = by_scheme (scheme_of notes slot) ∙ ap (λ o. option_map_or (serve_scheme slot space aggr tick regions bare) o (nothing_served regions bare)) (sym (scheme_of-untouched notes slot))
+serve_slot-untouched slot space aggr tick regions notes = by_scheme (scheme_of notes slot) ∙ ap (λ o. option_map_or (serve_scheme slot space aggr tick regions bare) o (nothing_served regions bare)) (sym (told notes 0 0 slot).1)
   where
     bare : List Note
     bare = filter is_no_touch notes
@@ -209,7 +141,7 @@ aggregated-untouched words s = ap (λ (o : Serving). record { core = aggregated_
 counted_from-untouched : (k : ℕ) (notes : List Note) (n : ℕ) (rows : List Row) → counted_from k notes n rows ≡ counted_from k (filter is_no_touch notes) n rows
 counted_from-untouched k notes n [] = refl
 counted_from-untouched k notes n (r ∷ rows) =
-    ap (λ b. record r { count = r.count + cond b 1 0 } ∷ counted_from (k + 1) notes n rows) (sym (was_hit-untouched notes n k))
+    ap (λ b. record r { count = r.count + cond b 1 0 } ∷ counted_from (k + 1) notes n rows) (sym (told notes n k 0).0)
     ∙ ap (λ rs. record r { count = r.count + cond (was_hit (filter is_no_touch notes) n k) 1 0 } ∷ rs) (counted_from-untouched (k + 1) notes n rows)
 
 -- a state after a pass that counts, with these rows
@@ -245,29 +177,15 @@ commit-untouched : (r : Result (Unit {0}) CommitFault) (parts : CommitValue) (s 
 commit-untouched (Ok t) parts s = ap (λ ns. record { core = committed_core parts s.core; notes = ns }) (committed_notes-untouched parts s.notes)
 commit-untouched (Err fault) parts s = refl
 
-clear-untouched : (ph : Phase) (s : State) → untouched (by_clear ph s) ≡ by_clear ph (untouched s)
-clear-untouched Idle s = refl
-clear-untouched (Clearing k) s = refl
-clear-untouched Armed s = refl
-clear-untouched (Checking k) s = refl
-clear-untouched Void s = refl
-clear-untouched Due s = refl
-
-load-untouched : (ph : Phase) (hit : Bool) (s : State) → untouched (by_load ph hit s) ≡ by_load ph hit (untouched s)
-load-untouched Idle hit s = refl
-load-untouched (Clearing k) hit s = refl
-load-untouched Armed hit s = refl
-load-untouched (Checking k) hit s = refl
-load-untouched Void hit s = refl
-load-untouched Due hit s = refl
-
-observe-untouched : (ph : Phase) (s : State) → untouched (by_observe ph s) ≡ by_observe ph (untouched s)
-observe-untouched Idle s = refl
-observe-untouched (Clearing k) s = refl
-observe-untouched Armed s = refl
-observe-untouched (Checking k) s = finished-untouched s
-observe-untouched Void s = refl
-observe-untouched Due s = refl
+-- the events of a pass, in each phase
+pass-untouched : (ph : Phase) (hit : Bool) (s : State)
+    → (untouched (by_clear ph s) ≡ by_clear ph (untouched s)) × (untouched (by_load ph hit s) ≡ by_load ph hit (untouched s)) × (untouched (by_observe ph s) ≡ by_observe ph (untouched s))
+pass-untouched Idle hit s = (refl, refl, refl)
+pass-untouched (Clearing k) hit s = (refl, refl, refl)
+pass-untouched Armed hit s = (refl, refl, refl)
+pass-untouched (Checking k) hit s = (refl, refl, finished-untouched s)
+pass-untouched Void hit s = (refl, refl, refl)
+pass-untouched Due hit s = (refl, refl, refl)
 
 -- an event that is no touch
 abbrev pub IsNoTouch : Event → Type 0
@@ -277,9 +195,9 @@ IsNoTouch _ = Unit {0}
 pub after-untouched : (s : State) (e : Event) → IsNoTouch e → untouched (after s e) ≡ after (untouched s) e
 after-untouched s (touch page) own = absurd own
 after-untouched s (prepare words) own = refl
-after-untouched s clear own = clear-untouched s.core.phase s
-after-untouched s (load hit) own = load-untouched s.core.phase hit s
-after-untouched s observe own = observe-untouched s.core.phase s
+after-untouched s clear own = (pass-untouched s.core.phase false s).0
+after-untouched s (load hit) own = (pass-untouched s.core.phase hit s).1
+after-untouched s observe own = (pass-untouched s.core.phase false s).2
 after-untouched s (aggregate words) own = aggregated-untouched words s
 after-untouched s (commit parts) own = commit-untouched (check_of parts s.core) parts s
 after-untouched s show own = refl

@@ -23,7 +23,7 @@ use Rattle.run_journal.specs.Steps.{steps}
 use Rattle.run_journal.specs.Woven.{AreWoven, events_from, is_no_touch_event, is_touch_of}
 use Rattle.run_journal.proofs.Fitting.{carried_reached, entry_own}
 use Rattle.run_journal.proofs.NumbersFit.{Prepares, all_among, each_tag, steps_named}
-use Rattle.run_journal.proofs.PhaseAfter.{MovesPasses, entry_moves}
+use Rattle.run_journal.proofs.PhaseAfter.{Counts, entry_counts}
 use Rattle.run_journal.proofs.Untouched.{IsNoTouch}
 use Rattle.run_journal.proofs.WovenList.{early, hit_at, late, touch_events, touches_after, touches_before, woven, woven_from}
 
@@ -47,19 +47,20 @@ none_after rs r (Void pass) = no_touches (late pass [] [] rs)
 none_after rs r (Aggregate tick pos) = refl
 none_after rs r (Call controller index answer) = refl
 
-one_own : (e : Event) → IsNoTouch e → is_no_touch_event e ≡ true
-one_own (touch page) own = absurd own
-one_own (prepare words) own = refl
-one_own clear own = refl
-one_own (load hit) own = refl
-one_own observe own = refl
-one_own (aggregate words) own = refl
-one_own (commit parts) own = refl
-one_own show own = refl
+-- an event that is no touch passes as such, and is no touch of a page
+one_own : (page : ℕ) (e : Event) → IsNoTouch e → (is_no_touch_event e ≡ true) × (is_touch_of page e ≡ false)
+one_own page (touch p) own = absurd own
+one_own page (prepare words) own = (refl, refl)
+one_own page clear own = (refl, refl)
+one_own page (load hit) own = (refl, refl)
+one_own page observe own = (refl, refl)
+one_own page (aggregate words) own = (refl, refl)
+one_own page (commit parts) own = (refl, refl)
+one_own page show own = (refl, refl)
 
 all_own : (es : List Event) → AllByRecursion IsNoTouch es → filter is_no_touch_event es ≡ es
 all_own [] own = refl
-all_own (e ∷ es) own = ap (λ b. cond b (e ∷ filter is_no_touch_event es) (filter is_no_touch_event es)) (one_own e own.0) ∙ ap (λ l. e ∷ l) (all_own es own.1)
+all_own (e ∷ es) own = ap (λ b. cond b (e ∷ filter is_no_touch_event es) (filter is_no_touch_event es)) (one_own 0 e own.0).0 ∙ ap (λ l. e ∷ l) (all_own es own.1)
 
 others_from : (v : LiveValue) (rs : List Receipt) (es : List Entry) (r : Replayed) → filter is_no_touch_event (woven_from v rs r es) ≡ events_from v r es
 others_from v rs [] r = refl
@@ -84,19 +85,9 @@ count page es = length (filter (is_touch_of page) es)
 count-append : (page : ℕ) (es fs : List Event) → count page (es ++ fs) ≡ count page es + count page fs
 count-append page es fs = ap length (filter-append (is_touch_of page) es fs) ∙ length-append (filter (is_touch_of page) es) (filter (is_touch_of page) fs)
 
-not_this : (page : ℕ) (e : Event) → IsNoTouch e → is_touch_of page e ≡ false
-not_this page (touch p) own = absurd own
-not_this page (prepare words) own = refl
-not_this page clear own = refl
-not_this page (load hit) own = refl
-not_this page observe own = refl
-not_this page (aggregate words) own = refl
-not_this page (commit parts) own = refl
-not_this page show own = refl
-
 count-own : (page : ℕ) (es : List Event) → AllByRecursion IsNoTouch es → count page es ≡ 0
 count-own page [] own = refl
-count-own page (e ∷ es) own = ap (λ b. length (cond b (e ∷ filter (is_touch_of page) es) (filter (is_touch_of page) es))) (not_this page e own.0) ∙ count-own page es own.1
+count-own page (e ∷ es) own = ap (λ b. length (cond b (e ∷ filter (is_touch_of page) es) (filter (is_touch_of page) es))) (one_own page e own.0).1 ∙ count-own page es own.1
 
 abbrev one : Bool → ℕ
 one b = cond b 1 0
@@ -192,7 +183,7 @@ all_known [] high each = tt
 all_known (r ∷ rs) high each = (ap (λ b. one b + one (is_between 0 high r.tag)) (and_true (r.tag == 0)) ∙ tag_known r.tag high each.0, all_known rs high each.1)
 
 -- a pass that is prepared ends
-one_ends : (v : LiveValue) (r : Replayed) (e : Entry) (high : ℕ) → EntryFits v r e → MovesPasses r.state.core (carried v r e).state.core e → (carried v r e).state.core.ticks + passes_open (carried v r e).state.core.phase ≤ high → Prepares (λ pass. pass ≤ high) e
+one_ends : (v : LiveValue) (r : Replayed) (e : Entry) (high : ℕ) → EntryFits v r e → Counts r.state.core (carried v r e).state.core e → (carried v r e).state.core.ticks + passes_open (carried v r e).state.core.phase ≤ high → Prepares (λ pass. pass ≤ high) e
 one_ends v r (Prepare pass pos) high fits moves below = let closed : passes_open r.state.core.phase ≡ 0 = ap passes_open fits.0 in omega (arith, fits.1, moves.begun, below, closed)
 one_ends v r (Check pass) high fits moves below = tt
 one_ends v r (Void pass) high fits moves below = tt
@@ -200,7 +191,7 @@ one_ends v r (Aggregate tick pos) high fits moves below = tt
 one_ends v r (Call controller index answer) high fits moves below = tt
 
 -- what an entry and its touches count: the receipts of the pass that it ends
-entry_touches : (v : LiveValue) (rs : List Receipt) (r : Replayed) (e : Entry) (page high : ℕ) → EntryFits v r e → MovesPasses r.state.core (carried v r e).state.core e → (carried v r e).state.core.ticks ≤ high
+entry_touches : (v : LiveValue) (rs : List Receipt) (r : Replayed) (e : Entry) (page high : ℕ) → EntryFits v r e → Counts r.state.core (carried v r e).state.core e → (carried v r e).state.core.ticks ≤ high
     → count page (touches_before rs r e) + count page (touches_after rs r e) + among (λ x. is_between (carried v r e).state.core.ticks high x.tag) page rs ≡ among (λ x. is_between r.state.core.ticks high x.tag) page rs
 entry_touches v rs r (Prepare pass pos) page high fits moves below = same_between rs (carried v r (Prepare pass pos)).state.core.ticks r.state.core.ticks page high (omega (arith, moves.ended))
 entry_touches v rs r (Check pass) page high fits moves below =
@@ -234,21 +225,21 @@ ends_later in_phase v e es r h = record { fit = h.fit.1; reached = carried_reach
 never_fall : ((s : State) → Reached s → IsInPhase s) → (v : LiveValue) (es : List Entry) (r : Replayed) → EndsIdle v es r → r.state.core.ticks + passes_open r.state.core.phase ≤ (replay_from v r es).state.core.ticks
 never_fall in_phase v [] r h = omega (arith, h.idle)
 never_fall in_phase v (e ∷ es) r h =
-    let moves = entry_moves v r e (in_phase r.state h.reached).some h.fit.0 in
+    let moves = entry_counts v r e (in_phase r.state h.reached).some h.fit.0 in
     omega (arith, moves.begun, never_fall in_phase v es (carried v r e) (ends_later in_phase v e es r h))
 
 prepares_end : ((s : State) → Reached s → IsInPhase s) → (v : LiveValue) (es : List Entry) (r : Replayed) → EndsIdle v es r → AllByRecursion (Prepares (λ pass. pass ≤ (replay_from v r es).state.core.ticks)) es
 prepares_end in_phase v [] r h = tt
 prepares_end in_phase v (e ∷ es) r h =
     let later = ends_later in_phase v e es r h in
-    let moves = entry_moves v r e (in_phase r.state h.reached).some h.fit.0 in
+    let moves = entry_counts v r e (in_phase r.state h.reached).some h.fit.0 in
     (one_ends v r e (replay_from v (carried v r e) es).state.core.ticks h.fit.0 moves (never_fall in_phase v es (carried v r e) later), prepares_end in_phase v es (carried v r e) later)
 
 touches_from : ((s : State) → Reached s → IsInPhase s) → (v : LiveValue) (rs : List Receipt) (page : ℕ) (es : List Entry) (r : Replayed) → EndsIdle v es r → count page (woven_from v rs r es) ≡ among (λ x. is_between r.state.core.ticks (replay_from v r es).state.core.ticks x.tag) page rs
 touches_from in_phase v rs page [] r h = sym (among-none (λ x. is_between r.state.core.ticks r.state.core.ticks x.tag) page rs (λ x. none_between x.tag r.state.core.ticks))
 touches_from in_phase v rs page (e ∷ es) r h =
     let later = ends_later in_phase v e es r h in
-    let moves = entry_moves v r e (in_phase r.state h.reached).some h.fit.0 in
+    let moves = entry_counts v r e (in_phase r.state h.reached).some h.fit.0 in
     let high : ℕ = (replay_from v (carried v r e) es).state.core.ticks in
     let b = touches_before rs r e in
     let m = entry_events v r e in
