@@ -10,7 +10,7 @@ use damon_control::Call;
 use damon_core::Monitor;
 
 /// Makes a call, and returns its answer. Takes no memory.
-pub fn make_call(monitor: &mut Monitor, call: &Call) -> CallAnswer
+pub(crate) fn make_call(monitor: &mut Monitor, call: &Call) -> CallAnswer
     ensures event { Makes Stands monitor.old monitor.new (call_event (call_value call.now) ∷ []) }
     ensures answer { result ≡ call_answer (call_value call.now) monitor.old.core }
     ensures core { monitor.new.core ≡ core_after_call (call_value call.now) monitor.old.core }
