@@ -1,5 +1,5 @@
 -- Where a call stands in the lists of a script, and what it does to the monitor.
-use Rattle.std.proofs.Common.{◌≡◌, ℕ, zero, suc, ◌*◌, ◌+◌, Bool, true, false, cond, List, [], ◌∷◌, map, Some, Ok, Err, Option, refl, sym, ap, ◌∙◌, subst, arith}
+use Rattle.std.proofs.Common.{◌≡◌, ℕ, zero, suc, ◌+◌, Bool, true, false, cond, List, [], ◌∷◌, map, Some, Ok, Err, Option, refl, sym, ap, ◌∙◌, subst, arith}
 use Rattle.std.specs.Prelude.{Result, slice_get, slice_index_or}
 use Rattle.std.specs.List.{AllByRecursion}
 use Rattle.std.specs.Option.{option_map_or}
@@ -77,20 +77,19 @@ call_carried {v = v} {j = j} {old = old} {new = new} {call = call} h is c =
     let made : (run r.state (call_event call ∷ [])).core ≡ new.monitor.core = ap (λ o. (run r.state (option_map_or (λ (x : CallValue). call_event x ∷ []) o [])).core) (sym is) ∙ (ap (λ (x : Replayed). x.state.core) (sym c.is) ∙ sym c.replays.stands.same) in
     subst (λ d. IsCalled old.monitor.core d) made (subst (λ b. IsCalled b (run r.state (call_event call ∷ [])).core) (sym h.stands.same) (event_called call r.state))
 
-pub call_takes : {v : LiveValue} {old new : ReplayingView} {controller index : ℕ} {answer : CallAnswer} → IsCalled old.monitor.core new.monitor.core → new.monitor.core.ticks ≡ old.monitor.core.ticks → new.drawn ≡ old.drawn → Takes v old new (CallEntry controller index answer) []
-call_takes {v = v} {old = old} {new = new} c ticks drawn =
-    let opened : passes_open new.monitor.core.phase ≡ passes_open old.monitor.core.phase = c.counts passes_open refl in
-    let product : v.setup.cap * passes_open new.monitor.core.phase ≡ v.setup.cap * (passes_open old.monitor.core.phase + 0) = ap (λ k. v.setup.cap * k) (omega (arith, opened)) in
-    record {
-      passes = omega (arith, ticks, opened);
-      entries = omega (arith, c.counts entries_owed refl);
-      results = omega (arith, product);
-      words = omega (arith, drawn, c.counts words_owed refl);
-    }
+pub call_takes : (v : LiveValue) (old new : ReplayingView) (controller index : ℕ) (answer : CallAnswer) → IsCalled old.monitor.core new.monitor.core → new.monitor.core.ticks ≡ old.monitor.core.ticks → new.drawn ≡ old.drawn → Takes v old new (CallEntry controller index answer) []
+call_takes v old new controller index answer c ticks drawn = record {
+  ended = 0;
+  ticks = omega (arith, ticks);
+  opens = omega (arith, c.counts passes_open refl);
+  entries = omega (arith, c.counts entries_owed refl);
+  results = omega arith;
+  words = omega (arith, drawn, c.counts words_owed refl);
+}
 
 -- the picks stay cleared
-pub still_cleared : {old new : ReplayingView} {seat : MonitorSeatView} → IsCalled old.monitor.core new.monitor.core → new.monitor.core.ticks ≡ old.monitor.core.ticks → AreCleared seat old → AreCleared seat new
-still_cleared {old = old} {new = new} {seat = seat} c ticks cleared armed =
+pub still_cleared : (old new : ReplayingView) (seat : MonitorSeatView) → IsCalled old.monitor.core new.monitor.core → new.monitor.core.ticks ≡ old.monitor.core.ticks → AreCleared seat old → AreCleared seat new
+still_cleared old new seat c ticks cleared armed =
     let was = c.picks armed in
     subst (λ ps. AllByRecursion (λ p. last_clear_of p seat.entries ≡ new.monitor.core.ticks + 1) ps) (sym was.1)
     (subst (λ t. AllByRecursion (λ p. last_clear_of p seat.entries ≡ t + 1) old.monitor.core.picks) (sym ticks) (cleared was.0))

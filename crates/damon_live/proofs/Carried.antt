@@ -85,12 +85,12 @@ phase_is {v = v} h same is = ap (λ (c : Core). c.phase) h.stands.same ∙ (ap (
 -- ---- the steps of a pass
 
 -- the seat has cleared the picks of a pass that was prepared
-pub cleared_steps : {v : LiveValue} {j : JournalValue} {new : ReplayingView} {seat after : MonitorSeatView} {pass at : ℕ} → IsCarried v v j (Prepare pass at) [] new → after ≡ record seat { entries = seat.entries ++ clear_steps pass new.monitor.core.picks }
+pub cleared_steps : {v : LiveValue} {j : JournalValue} {new : ReplayingView} {pass at : ℕ} (seat after : MonitorSeatView) → IsCarried v v j (Prepare pass at) [] new → after ≡ record seat { entries = seat.entries ++ clear_steps pass new.monitor.core.picks }
     → after ≡ record seat { entries = seat.entries ++ entry_steps v (replay_with v j []) (Prepare pass at) }
-cleared_steps {seat = seat} {pass = pass} c is = is ∙ ap (λ ps. record seat { entries = seat.entries ++ clear_steps pass ps }) (ap (λ (d : Core). d.picks) c.replays.stands.same ∙ ap (λ (x : Replayed). x.state.core.picks) c.is)
+cleared_steps {pass = pass} seat after c is = is ∙ ap (λ ps. record seat { entries = seat.entries ++ clear_steps pass ps }) (ap (λ (d : Core). d.picks) c.replays.stands.same ∙ ap (λ (x : Replayed). x.state.core.picks) c.is)
 
-pub are_cleared : {new : ReplayingView} {seat after : MonitorSeatView} {pass : ℕ} → after ≡ record seat { entries = seat.entries ++ clear_steps pass new.monitor.core.picks } → pass ≡ new.monitor.core.ticks + 1 → AreCleared after new
-are_cleared {new = new} {seat = seat} {pass = pass} is number armed =
+pub are_cleared : (new : ReplayingView) (seat after : MonitorSeatView) (pass : ℕ) → after ≡ record seat { entries = seat.entries ++ clear_steps pass new.monitor.core.picks } → pass ≡ new.monitor.core.ticks + 1 → AreCleared after new
+are_cleared new seat after pass is number armed =
     let ps = new.monitor.core.picks in
     subst (λ es. AllByRecursion (λ q. last_clear_of q es ≡ new.monitor.core.ticks + 1) ps) (sym (ap (λ (s : MonitorSeatView). s.entries) is))
     (subst (λ n. AllByRecursion (λ q. last_clear_of q (seat.entries ++ clear_steps pass ps) ≡ n) ps) number (all_cleared pass seat.entries ps))

@@ -12,7 +12,7 @@ use Rattle.run_journal.specs.declared.entry.Entry.{Entry}
 use Rattle.run_journal.specs.declared.entry.Entry.TheVariants.{Aggregate, Check, Prepare}
 use Rattle.run_journal.specs.Counted.{prepares}
 use Rattle.run_journal.specs.Growth.{longer, replay_with}
-use Rattle.run_journal.specs.Replay.{JournalValue, Replayed, check_size, replay}
+use Rattle.run_journal.specs.Replay.{JournalValue, check_size, replay}
 use Rattle.run_journal.specs.Replaying.{ReplayingView}
 use Rattle.run_journal.specs.Room.{JournalView, with_entry, with_results}
 use Rattle.damon_live.specs.Machine.{HasRoom, call_in, calls_left, entries_owed, passes_made, words_owed}
@@ -42,15 +42,17 @@ by_check v j new pass bits size is = record {
   bit_room = ap (λ (x : JournalView). x.bit_room) is;
 }
 
--- an entry takes what was owed to it
+-- an entry takes what was owed to it: it ends this many passes, and has results for them alone
 pub record Takes (v : LiveValue) (old new : ReplayingView) (e : Entry) (bits : List Bool) : Type 0 where
-  pub passes : new.monitor.core.ticks + passes_open new.monitor.core.phase ≡ old.monitor.core.ticks + passes_open old.monitor.core.phase + prepares e
+  pub ended : ℕ
+  pub ticks : new.monitor.core.ticks ≡ old.monitor.core.ticks + ended
+  pub opens : passes_open new.monitor.core.phase + ended ≡ passes_open old.monitor.core.phase + prepares e
   pub entries : entries_owed new.monitor.core.phase + 1 ≤ entries_owed old.monitor.core.phase + 3 * prepares e + call_in e
-  pub results : length bits + v.setup.cap * passes_open new.monitor.core.phase ≤ v.setup.cap * (passes_open old.monitor.core.phase + prepares e)
+  pub results : length bits ≤ v.setup.cap * ended
   pub words : new.drawn + words_owed new.monitor.core.phase ≤ old.drawn + words_owed old.monitor.core.phase + 2 ^ 34 * prepares e
 
-results_left : (bits more cap k n p q room : ℕ) → bits + cap * (k + n + p) ≤ room → more + cap * q ≤ cap * (p + n) → bits + more + cap * (k + q) ≤ room
-results_left bits more cap k n p q room old takes = omega (arith, old, takes)
+results_left : (bits more cap k ended q room : ℕ) → bits + cap * (k + (q + ended)) ≤ room → more ≤ cap * ended → bits + more + cap * (k + q) ≤ room
+results_left bits more cap k ended q room old takes = omega (arith, old, takes)
 
 calls_after : (v : LiveValue) (es : List Entry) (e : Entry) → call_in e ≤ calls_left v es → calls_left v (es ++ e ∷ []) + call_in e ≡ calls_left v es
 calls_after v es e some = omega (arith, sum_by_push call_in es e, some)
@@ -62,11 +64,12 @@ room_left v old new j next e bits passes more places h is t more_is most called 
     let results : length next.value.bits ≡ length j.value.bits + length bits = ap (λ (x : JournalValue). length x.bits) is.value ∙ length-append j.value.bits bits in
     let calls : calls_left v next.value.entries + call_in e ≡ calls_left v j.value.entries = ap (λ (x : JournalValue). calls_left v x.entries + call_in e) is.value ∙ calls_after v j.value.entries e called in
     let split : v.passes - passes ≡ v.passes - more + prepares e = omega (arith, more_is, most) in
-    let owed = subst (λ k. length j.value.bits + v.setup.cap * (k + passes_open old.monitor.core.phase) ≤ j.bit_room) split h.results in
-    let left = results_left (length j.value.bits) (length bits) v.setup.cap (v.passes - more) (prepares e) (passes_open old.monitor.core.phase) (passes_open new.monitor.core.phase) j.bit_room owed t.results in
+    let opened : v.passes - passes + passes_open old.monitor.core.phase ≡ v.passes - more + (passes_open new.monitor.core.phase + t.ended) = omega (arith, split, t.opens) in
+    let owed = subst (λ k. length j.value.bits + v.setup.cap * k ≤ j.bit_room) opened h.results in
+    let left = results_left (length j.value.bits) (length bits) v.setup.cap (v.passes - more) t.ended (passes_open new.monitor.core.phase) j.bit_room owed t.results in
     record {
       made = ap passes_made is.value ∙ (sum_by_push prepares j.value.entries e ∙ omega (arith, h.made, more_is));
-      passes_are = omega (arith, t.passes, h.passes_are, more_is);
+      passes_are = omega (arith, t.ticks, t.opens, h.passes_are, more_is);
       most = most;
       entries = omega (arith, h.entries, count, t.entries, is.room, calls, split);
       results = subst (λ k. k + v.setup.cap * (v.passes - more + passes_open new.monitor.core.phase) ≤ next.bit_room) (sym results) (subst (λ k. length j.value.bits + length bits + v.setup.cap * (v.passes - more + passes_open new.monitor.core.phase) ≤ k) (sym is.bit_room) left);
@@ -84,16 +87,14 @@ room_for_results {v = v} {j = j} {passes = passes} more h opened few =
 -- ---- what each entry takes
 
 pub prepare_takes : (v : LiveValue) (old new : ReplayingView) (pass at : ℕ) → old.monitor.core.phase ≡ Idle → new.monitor.core.phase ≡ Armed → new.monitor.core.ticks ≡ old.monitor.core.ticks → new.drawn ≤ old.drawn + 2 ^ 33 → Takes v old new (Prepare pass at) []
-prepare_takes v old new pass at idle armed ticks few =
-    let closed : passes_open old.monitor.core.phase ≡ 0 = ap passes_open idle in
-    let opened : passes_open new.monitor.core.phase ≡ 1 = ap passes_open armed in
-    let product : v.setup.cap * passes_open new.monitor.core.phase ≡ v.setup.cap * (passes_open old.monitor.core.phase + 1) = ap (λ k. v.setup.cap * k) (omega (arith, closed, opened)) in
-    record {
-      passes = omega (arith, ticks, closed, opened);
-      entries = omega (arith, ap entries_owed idle, ap entries_owed armed);
-      results = omega (arith, product);
-      words = omega (arith, few, ap words_owed idle, ap words_owed armed);
-    }
+prepare_takes v old new pass at idle armed ticks few = record {
+  ended = 0;
+  ticks = omega (arith, ticks);
+  opens = omega (arith, ap passes_open idle, ap passes_open armed);
+  entries = omega (arith, ap entries_owed idle, ap entries_owed armed);
+  results = omega arith;
+  words = omega (arith, few, ap words_owed idle, ap words_owed armed);
+}
 
 -- a pass has ended: an aggregation is due, or none
 pub record IsEnd (ph : Phase) : Type 0 where
@@ -113,24 +114,21 @@ is_end (Checking k) ticks ended = absurd (omega (arith, ended))
 
 pub end_takes : (v : LiveValue) (old new : ReplayingView) (e : Entry) (bits : List Bool) → passes_open old.monitor.core.phase ≡ 1 → entries_owed old.monitor.core.phase ≡ 2 → words_owed old.monitor.core.phase ≡ 2 ^ 33
     → prepares e ≡ 0 → length bits ≤ v.setup.cap → IsEnd new.monitor.core.phase → new.monitor.core.ticks ≡ old.monitor.core.ticks + 1 → new.drawn ≡ old.drawn → Takes v old new e bits
-end_takes v old new e bits opened owed words none few end ticks drawn =
-    let nothing : v.setup.cap * passes_open new.monitor.core.phase ≡ 0 = ap (λ k. v.setup.cap * k) end.closed ∙ omega arith in
-    let one : v.setup.cap * (passes_open old.monitor.core.phase + prepares e) ≡ v.setup.cap = ap (λ k. v.setup.cap * (k + prepares e)) opened ∙ (ap (λ k. v.setup.cap * (1 + k)) none ∙ omega arith) in
-    record {
-      passes = omega (arith, ticks, opened, end.closed, none);
-      entries = omega (arith, owed, end.entries);
-      results = omega (arith, nothing, one, few);
-      words = omega (arith, words, drawn, end.words);
-    }
+end_takes v old new e bits opened owed words none few end ticks drawn = record {
+  ended = 1;
+  ticks = ticks;
+  opens = omega (arith, opened, end.closed, none);
+  entries = omega (arith, owed, end.entries);
+  results = omega (arith, few);
+  words = omega (arith, words, drawn, end.words);
+}
 
 pub aggregate_takes : (v : LiveValue) (old new : ReplayingView) (tick at : ℕ) → old.monitor.core.phase ≡ Due → new.monitor.core.phase ≡ Idle → new.monitor.core.ticks ≡ old.monitor.core.ticks → new.drawn ≤ old.drawn + 2 ^ 33 → Takes v old new (Aggregate tick at) []
-aggregate_takes v old new tick at due idle ticks few =
-    let closed : passes_open old.monitor.core.phase ≡ 0 = ap passes_open due in
-    let still : passes_open new.monitor.core.phase ≡ 0 = ap passes_open idle in
-    let product : v.setup.cap * passes_open new.monitor.core.phase ≡ v.setup.cap * (passes_open old.monitor.core.phase + 0) = ap (λ k. v.setup.cap * k) (omega (arith, closed, still)) in
-    record {
-      passes = omega (arith, ticks, closed, still);
-      entries = omega (arith, ap entries_owed due, ap entries_owed idle);
-      results = omega (arith, product);
-      words = omega (arith, few, ap words_owed due, ap words_owed idle);
-    }
+aggregate_takes v old new tick at due idle ticks few = record {
+  ended = 0;
+  ticks = omega (arith, ticks);
+  opens = omega (arith, ap passes_open due, ap passes_open idle);
+  entries = omega (arith, ap entries_owed due, ap entries_owed idle);
+  results = omega arith;
+  words = omega (arith, few, ap words_owed due, ap words_owed idle);
+}

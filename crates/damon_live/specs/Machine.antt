@@ -59,7 +59,7 @@ abbrev pub calls_left : LiveValue → List Entry → ℕ
 calls_left v es = count_all v.controllers - sum_by call_in es
 
 -- The passes and the room that are left: three entries and `cap` results for each pass that is not begun, and what the pass
--- that is begun still takes. The results of a pass have their places.
+-- that is begun still takes. There is room for the results of a pass.
 pub record HasRoom (v : LiveValue) (r : ReplayingView) (j : JournalView) (passes places : ℕ) : Type 0 where
   pub made : passes_made j.value ≡ passes
   pub passes_are : r.monitor.core.ticks + passes_open r.monitor.core.phase ≡ passes

@@ -1,4 +1,4 @@
-ghost use Rattle.std.specs.Prelude.{◌≡◌, ◌+◌, ◌*◌, ◌<◌, ◌≤◌, [], Bool, List, IfOk, IsSome, Some, length, slice_index_or};
+ghost use Rattle.std.specs.Prelude.{◌≡◌, ◌+◌, ◌*◌, ◌<◌, ◌≤◌, [], Bool, List, IfOk, IsSome, Some, length};
 ghost use Rattle.live_commit.specs.declared.phase.Phase.TheVariants.{Idle, Armed, Due, Void as VoidPhase};
 ghost use Rattle.run_journal.specs.declared.entry.Entry.TheVariants.{Call, Check, Void};
 ghost use Rattle.damon_types.specs.Space.{pages_of};
@@ -18,7 +18,7 @@ ghost use Rattle.damon_live.specs.declared.top.TheConstants.{MAX_RESULTS};
 
 use crate::kept::{Kept1, KeptParts};
 use crate::named::Named;
-use crate::passes::{PassHits, load_all};
+use crate::passes::load_all;
 use damon_control::{LiveScript, MAX_CALLS};
 use live_commit::Phase;
 use page_words::{MonitorSeat, PageWords};
@@ -35,13 +35,13 @@ pub(crate) struct Machine<'a, N: Named> {
     seat: MonitorSeat,
     journal: Journal,
     passes: u32,
-    // Places for the results of a pass, one for each row that there may be.
-    places: Vec<bool>,
+    // The results of the last check; the room for them is taken once.
+    hits: Vec<bool>,
     of: PhantomData<N>,
 }
 
 impl<'a, N: Named> Model for Machine<'a, N> {
-    ghost use Rattle.std.specs.Prelude.{length};
+    ghost use Rattle.std.specs.Prelude.{vec_capacity};
     ghost use Rattle.run_journal.specs.Replay.{JournalValue};
     ghost use Rattle.damon_live.specs.Machine.{IsMachine};
 
@@ -50,7 +50,7 @@ impl<'a, N: Named> Model for Machine<'a, N> {
     ghost view = { λ m. m.journal.value };
 
     ghost invariant = { λ m. IsMachine N.script N.table N.seats m.script.now m.replaying m.seat
-        m.journal m.passes (length m.places.items) };
+        m.journal m.passes (vec_capacity m.hits) };
 }
 
 impl<'a, N: Named> Machine<'a, N> {
@@ -69,14 +69,14 @@ impl<'a, N: Named> Machine<'a, N> {
     {
         let replaying = Replaying::new(alloc, script.seed, &script.setup)?;
         let journal = Journal::new(alloc, script.passes, script.setup.cap, MAX_CALLS)?;
-        let places = vec![in alloc; false; script.setup.cap as usize]?;
+        let hits = Vec::with_capacity(alloc, script.setup.cap as usize)?;
         Ok(Machine {
             script,
             replaying,
             seat,
             journal,
             passes: 0,
-            places,
+            hits,
             of: PhantomData,
         })
     }
@@ -93,25 +93,6 @@ impl<'a, N: Named> Machine<'a, N> {
         ensures { result ≡ passes_made self.now }
     {
         self.passes
-    }
-
-    /// The passes that the script asks for.
-    pub(crate) fn limit(&self) -> u32
-        ensures { result ≡ N.script.passes }
-    {
-        self.script.passes
-    }
-
-    /// How many calls of a controller are in the script.
-    pub(crate) fn call_limit(&self, controller: u32) -> u32
-        ensures { result ≡ length (slice_index_or N.script.controllers controller []) }
-    {
-        let controllers = &self.script.controllers;
-        if controller < controllers.len() {
-            controllers.get(controller).len()
-        } else {
-            0
-        }
     }
 
     /// Prepares a pass and clears its picks. The phase is Idle, and not all passes were made.
@@ -145,15 +126,14 @@ impl<'a, N: Named> Machine<'a, N> {
         ensures made { passes_made self.new ≡ passes_made self.old }
     {
         let pass = self.replaying.monitor().ticks() + 1;
-        let rows = load_all(
+        load_all(
             words,
             &mut self.seat,
             self.replaying.monitor(),
-            &mut self.places,
+            &mut self.hits,
         );
-        let results = PassHits::first(&self.places, rows);
-        self.journal.check(pass, results.hits);
-        self.replaying.check(&results);
+        self.journal.check(pass, &self.hits);
+        self.replaying.check(&self.hits);
     }
 
     /// Ends a void pass. The phase is Void.
@@ -227,7 +207,7 @@ impl<'a, N: Named> Machine<'a, N> {
             seat,
             journal,
             passes: _,
-            places: _,
+            hits: _,
             of: _,
         } = self;
         KeptParts {

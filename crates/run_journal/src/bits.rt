@@ -152,8 +152,8 @@ impl<'a> CheckResults for BitRun<'a> {
     }
 }
 
-/// Hands the results of all picks to a monitor at once.
-pub fn load_at_once(monitor: &mut Monitor, bits: &[bool])
+// Hands the results of all picks to a monitor at once.
+fn load_at_once(monitor: &mut Monitor, bits: &[bool])
     requires armed { monitor.old.core.phase ≡ Armed }
     requires each { length bits.now ≡ row_count monitor.old.core }
     ensures core { monitor.new.core

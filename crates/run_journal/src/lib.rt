@@ -25,7 +25,7 @@ mod results;
 /// Random words by their position.
 mod words;
 
-pub use bits::{BitList, BitPlace, BitRun, CheckResults, load_at_once};
+pub use bits::{BitList, BitPlace, BitRun, CheckResults};
 pub use entry::{CallAnswer, Entry, Receipt, Receipts};
 pub use journal::Journal;
 pub use lawful::{Lawful, VerifyFault};

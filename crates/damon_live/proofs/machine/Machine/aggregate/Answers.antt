@@ -1,4 +1,4 @@
-use Rattle.std.proofs.Common.{◌≡◌, ◌+◌, refl, ap, sym, ◌∙◌, arith}
+use Rattle.std.proofs.Common.{◌≡◌, refl, ap, sym, ◌∙◌, arith}
 use Rattle.live_commit.specs.declared.phase.Phase.TheVariants.{Due}
 use Rattle.damon_core.specs.State.{Core}
 use Rattle.damon_core.specs.Stands.{MonitorView}

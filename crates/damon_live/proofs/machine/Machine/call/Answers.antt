@@ -1,4 +1,4 @@
-use Rattle.std.proofs.Common.{◌≡◌, ℕ, ◌+◌, ◌<◌, length, Some, refl, ap, sym, ◌∙◌, subst, arith}
+use Rattle.std.proofs.Common.{◌≡◌, ◌<◌, length, Some, refl, ap, sym, ◌∙◌, subst, arith}
 use Rattle.damon_core.specs.State.{Core}
 use Rattle.damon_control.specs.Live.{LiveValue}
 use Rattle.damon_control.specs.LiveView.{call_value}
@@ -24,7 +24,7 @@ invariant_of-self g c =
     let carried = made.known v s.journal.value c.args.controller c.args.index i.run.replays is in
     let called = call_carried i.run.replays is carried in
     let left : 0 < calls_left v s.journal.value.entries = subst (λ (j : JournalValue). 0 < calls_left v j.entries) (sym c.self.view_is) c.requires.left in
-    goes_on_unseen i carried (by_entry v s.journal c.call-place.new.self e refl c.call-place.ensures.entry) (call_takes called made.ticks made.drawn) made.space (omega (arith, made.ticks)) (still_cleared {seat = s.seat} called made.ticks i.run.cleared) refl refl (omega (arith, left))
+    goes_on_unseen i carried (by_entry v s.journal c.call-place.new.self e refl c.call-place.ensures.entry) (call_takes v s.replaying c.call-answer.new.self _ _ _ called made.ticks made.drawn) made.space (omega (arith, made.ticks)) (still_cleared s.replaying c.call-answer.new.self s.seat called made.ticks i.run.cleared) refl refl (omega (arith, left))
 
 pub returns : goal.returns
 returns g c =

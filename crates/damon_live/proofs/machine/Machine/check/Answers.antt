@@ -1,6 +1,4 @@
-use Rattle.std.proofs.Common.{◌≡◌, ℕ, ◌+◌, ◌≤◌, ◌++◌, length, take, refl, ap, sym, ◌∙◌, subst, arith}
-use Rattle.std.proofs.lemmas.List.{with_items_is}
-use Rattle.std.specs.Vec.{with_items}
+use Rattle.std.proofs.Common.{◌≡◌, ℕ, ◌+◌, ◌≤◌, ◌++◌, length, refl, ap, sym, ◌∙◌, subst, arith}
 use Rattle.live_commit.specs.declared.phase.Phase.TheVariants.{Armed}
 use Rattle.page_words.specs.PassSteps.{load_steps}
 use Rattle.damon_core.specs.Pass.{IsBetween}
@@ -10,26 +8,26 @@ use Rattle.run_journal.specs.Phases.{passes_open}
 use Rattle.run_journal.specs.declared.entry.Entry.TheVariants.{Check}
 use Rattle.run_journal.specs.Room.{with_entry, with_results}
 use Rattle.run_journal.proofs.Lemmas.{cap_kept}
-use Rattle.damon_live.specs.Machine.{entries_owed, passes_made, words_owed}
+use Rattle.damon_live.specs.Machine.{IsMachine, entries_owed, passes_made, words_owed}
 use Rattle.damon_live.proofs.Carried.{goes_on, loaded_steps, phase_is}
 use Rattle.damon_live.proofs.Rooms.{by_check, end_takes, is_end, room_for_results}
 use Rattle.damon_live.proofs.machine.Machine.check.Goals as goal
 
-pub load_all-rows-requires-clause-room : goal.load_all-rows-requires-clause-room
-load_all-rows-requires-clause-room g c =
+pub load_all-requires-clause-room : goal.load_all-requires-clause-room
+load_all-requires-clause-room g c =
     let i = c.self.invariant in
     let cap : c.monitor-2.result.now.core.regions.cap ≡ g.N.Named.script.setup.cap = ap (λ (m : MonitorView). m.core.regions.cap) c.monitor-2.ensures ∙ cap_kept _ _ _ i.run.replays in
-    omega (arith, ap length c.deref_mut.ensures.value, i.room.hits, cap)
+    omega (arith, i.room.hits, cap)
 
 pub check-requires-clause-bits : goal.check-requires-clause-bits
 check-requires-clause-bits g c =
     let i = c.self.invariant in
     let armed : c.self.inside.replaying.monitor.core.phase ≡ Armed = phase_is i.run.replays c.self.view_is c.requires.armed in
     let cap : c.monitor-2.result.now.core.regions.cap ≡ g.N.Named.script.setup.cap = ap (λ (m : MonitorView). m.core.regions.cap) c.monitor-2.ensures ∙ cap_kept _ _ _ i.run.replays in
-    room_for_results _ i.room (ap passes_open armed) (omega (arith, c.first-results.ensures.len, c.load_all-rows.ensures.rows, c.load_all-rows.ensures.few, cap))
+    room_for_results _ i.room (ap passes_open armed) (omega (arith, ap length c.deref.ensures.value, c.load_all.ensures.each, c.load_all.ensures.few, cap))
 
 pub check-2-requires-clause-each : goal.check-2-requires-clause-each
-check-2-requires-clause-each g c = c.first-results.ensures.len ∙ (c.load_all-rows.ensures.rows ∙ ap (λ (m : MonitorView). row_count m.core) c.monitor-2.ensures)
+check-2-requires-clause-each g c = c.load_all.ensures.each ∙ ap (λ (m : MonitorView). row_count m.core) c.monitor-2.ensures
 
 pub invariant_of-self : goal.invariant_of-self
 invariant_of-self g c =
@@ -39,25 +37,19 @@ invariant_of-self g c =
     let old = s.replaying in
     let new = c.check-2.new.self in
     let made = c.check-2.ensures in
-    let loaded = c.load_all-rows.ensures in
-    let places = c.load_all-rows.new.places in
-    let bits = c.first-results.result.hits.now in
+    let loaded = c.load_all.ensures in
+    let bits = c.load_all.new.hits.items in
     let pass : ℕ = old.monitor.core.ticks + 1 in
     let armed : old.monitor.core.phase ≡ Armed = phase_is i.run.replays c.self.view_is c.requires.armed in
     let end = is_end _ _ made.ended in
-    let as_many : length places ≡ length s.places.items = loaded.room ∙ ap length c.deref_mut.ensures.value in
-    let items : (with_items s.places places).items ≡ places = with_items_is s.places places (omega (arith, as_many)) in
-    let taken : bits ≡ take c.load_all-rows.result places = c.first-results.ensures.hits ∙ ap (take c.load_all-rows.result) (c.deref.ensures.value ∙ items) in
-    let size : length bits ≡ row_count old.monitor.core = c.first-results.ensures.len ∙ (loaded.rows ∙ ap (λ (m : MonitorView). row_count m.core) c.monitor-2.ensures) in
-    let few : length bits ≤ v.setup.cap = omega (arith, size, loaded.few, ap (λ (m : MonitorView). row_count m.core) c.monitor-2.ensures, ap (λ (m : MonitorView). m.core.regions.cap) c.monitor-2.ensures, cap_kept _ _ _ i.run.replays) in
+    let rows = ap (λ (m : MonitorView). row_count m.core) c.monitor-2.ensures in
+    let size : length bits ≡ row_count old.monitor.core = loaded.each ∙ rows in
+    let few : length bits ≤ v.setup.cap = omega (arith, loaded.each, loaded.few, ap (λ (m : MonitorView). m.core.regions.cap) c.monitor-2.ensures, cap_kept _ _ _ i.run.replays) in
     let number : c.ticks-pass.result + 1 ≡ pass = ap (λ t. t + 1) c.ticks-pass.ensures ∙ ap (λ (m : MonitorView). m.core.ticks + 1) c.monitor.ensures in
-    let more = by_check v s.journal c.check.new.self pass bits (size ∙ ap row_count i.run.replays.stands.same) (c.check.ensures ∙ ap (λ n. with_entry (Check n) (with_results bits s.journal)) number) in
-    let seat =
-    loaded.seat
-    ∙ ap (λ bs. record s.seat { entries = s.seat.entries ++ load_steps (c.monitor-2.result.now.core.ticks + 1) c.monitor-2.result.now.core.picks bs }) (sym taken)
-    ∙ ap (λ (m : MonitorView). record s.seat { entries = s.seat.entries ++ load_steps (m.core.ticks + 1) m.core.picks bits }) c.monitor-2.ensures in
-    let kept : length (with_items s.places places).items ≡ length s.places.items = ap length items ∙ as_many in
-    subst (IsMachine v g.N.Named.table g.N.Named.seats s.script.now new c.load_all-rows.new.seat c.check.new.self s.passes) (sym kept) (goes_on i (made.entry v s.journal.value i.run.replays) more (record {
+    let is = c.check.ensures ∙ (ap (λ n. with_entry (Check n) (with_results c.deref.result.now s.journal)) number ∙ ap (λ l. with_entry (Check pass) (with_results l s.journal)) c.deref.ensures.value) in
+    let more = by_check v s.journal c.check.new.self pass bits (size ∙ ap row_count i.run.replays.stands.same) is in
+    let seat = loaded.seat ∙ ap (λ (m : MonitorView). record s.seat { entries = s.seat.entries ++ load_steps (m.core.ticks + 1) m.core.picks bits }) c.monitor-2.ensures in
+    subst (IsMachine v g.N.Named.table g.N.Named.seats s.script.now new c.load_all.new.seat c.check.new.self s.passes) (sym loaded.capacity) (goes_on i (made.entry v s.journal.value i.run.replays) more (record {
       space = made.space;
       seat_is = seat ∙ loaded_steps s.seat pass bits i.run.replays size;
       cleared = λ armed. absurd (end.not_armed armed);

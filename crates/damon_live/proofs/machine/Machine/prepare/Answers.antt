@@ -28,8 +28,8 @@ invariant_of-self g c =
     let carried = made.entry v s.journal.value i.run.replays in
     goes_on i carried more (record {
       space = made.space;
-      seat_is = cleared_steps carried seat;
-      cleared = are_cleared seat (ap (λ t. t + 1) (sym made.ticks));
+      seat_is = cleared_steps s.seat c.clear_each.new.seat carried seat;
+      cleared = are_cleared new s.seat c.clear_each.new.seat (old.monitor.core.ticks + 1) seat (ap (λ t. t + 1) (sym made.ticks));
       last = omega (arith, c.clear_each.ensures.last, number, made.ticks);
       takes = prepare_takes v old new _ _ idle made.phase made.ticks made.drawn;
       passes_are = refl;
