@@ -1,5 +1,7 @@
 use Rattle.std.proofs.Common.{◌≡◌, ℕ, ◌+◌, ◌≤◌, ◌++◌, length, refl, ap, sym, ◌∙◌, subst, arith}
 use Rattle.live_commit.specs.declared.phase.Phase.TheVariants.{Armed}
+use Rattle.std.specs.List.{AllByRecursion}
+use Rattle.page_words.specs.Clears.{last_clear_of}
 use Rattle.page_words.specs.PassSteps.{load_steps}
 use Rattle.damon_core.specs.Pass.{IsBetween}
 use Rattle.damon_core.specs.Stands.{MonitorView}
@@ -10,7 +12,7 @@ use Rattle.run_journal.specs.Room.{with_entry, with_results}
 use Rattle.run_journal.proofs.Lemmas.{cap_kept}
 use Rattle.damon_live.specs.Machine.{IsMachine, entries_owed, passes_made, words_owed}
 use Rattle.damon_live.proofs.Carried.{goes_on, loaded_steps, phase_is}
-use Rattle.damon_live.proofs.Rooms.{by_check, end_takes, is_end, room_for_results}
+use Rattle.damon_live.proofs.Rooms.{IsEnd, by_check, end_takes, is_end, room_for_results}
 use Rattle.damon_live.proofs.machine.Machine.check.Goals as goal
 
 pub load_all-requires-clause-room : goal.load_all-requires-clause-room
@@ -19,6 +21,12 @@ load_all-requires-clause-room g c =
     let cap : c.monitor-2.result.now.core.regions.cap ≡ g.N.Named.script.setup.cap = ap (λ (m : MonitorView). m.core.regions.cap) c.monitor-2.ensures ∙ cap_kept _ _ _ i.run.replays in
     omega (arith, i.room.hits, cap)
 
+pub load_all-requires-clause-cleared : goal.load_all-requires-clause-cleared
+load_all-requires-clause-cleared g c =
+    let seat = c.self.inside.seat in
+    let armed : c.self.inside.replaying.monitor.core.phase ≡ Armed = phase_is c.self.invariant.run.replays c.self.view_is c.requires.armed in
+    subst (λ (m : MonitorView). AllByRecursion (λ p. last_clear_of p seat.entries ≡ m.core.ticks + 1) m.core.picks) (sym c.monitor-2.ensures) (c.self.invariant.run.cleared armed)
+
 pub check-requires-clause-bits : goal.check-requires-clause-bits
 check-requires-clause-bits g c =
     let i = c.self.invariant in
@@ -26,8 +34,8 @@ check-requires-clause-bits g c =
     let cap : c.monitor-2.result.now.core.regions.cap ≡ g.N.Named.script.setup.cap = ap (λ (m : MonitorView). m.core.regions.cap) c.monitor-2.ensures ∙ cap_kept _ _ _ i.run.replays in
     room_for_results _ i.room (ap passes_open armed) (omega (arith, ap length c.deref.ensures.value, c.load_all.ensures.each, c.load_all.ensures.few, cap))
 
-pub check-2-requires-clause-each : goal.check-2-requires-clause-each
-check-2-requires-clause-each g c = c.load_all.ensures.each ∙ ap (λ (m : MonitorView). row_count m.core) c.monitor-2.ensures
+pub check-requires-2-clause-each : goal.check-requires-2-clause-each
+check-requires-2-clause-each g c = c.load_all.ensures.each ∙ ap (λ (m : MonitorView). row_count m.core) c.monitor-2.ensures
 
 pub invariant_of-self : goal.invariant_of-self
 invariant_of-self g c =
@@ -41,7 +49,7 @@ invariant_of-self g c =
     let bits = c.load_all.new.hits.items in
     let pass : ℕ = old.monitor.core.ticks + 1 in
     let armed : old.monitor.core.phase ≡ Armed = phase_is i.run.replays c.self.view_is c.requires.armed in
-    let end = is_end _ _ made.ended in
+    let end : IsEnd new.monitor.core.phase = is_end _ _ made.ended in
     let rows = ap (λ (m : MonitorView). row_count m.core) c.monitor-2.ensures in
     let size : length bits ≡ row_count old.monitor.core = loaded.each ∙ rows in
     let few : length bits ≤ v.setup.cap = omega (arith, loaded.each, loaded.few, ap (λ (m : MonitorView). m.core.regions.cap) c.monitor-2.ensures, cap_kept _ _ _ i.run.replays) in
