@@ -1,6 +1,4 @@
-pub mod Preparing
-pub mod Checking
-pub mod Between
+pub mod Carried
 pub mod Rooms
 pub mod Calling
 pub mod Turns

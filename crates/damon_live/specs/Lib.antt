@@ -1,5 +1,4 @@
 pub mod Names
-pub mod Passes
 pub mod Machine
 pub mod Kept
 pub mod Plain

@@ -102,7 +102,7 @@ impl<'a, N: Named> Kept<'a, N> {
     pub fn limit(&self) -> u32
         ensures { result ≡ N.script.passes }
     {
-        self.machine.limit()
+        self.machine.script().passes
     }
 
     /// How many controllers the script has.
@@ -116,7 +116,12 @@ impl<'a, N: Named> Kept<'a, N> {
     pub fn call_limit(&self, controller: u32) -> u32
         ensures { result ≡ calls_asked controller N.script }
     {
-        self.machine.call_limit(controller)
+        let controllers = &self.machine.script().controllers;
+        if controller < controllers.len() {
+            controllers.get(controller).len()
+        } else {
+            0
+        }
     }
 
     /// How many calls a controller has made.

@@ -1,4 +1,4 @@
-ghost use Rattle.std.specs.Prelude.{◌≡◌, ◌+◌, ◌*◌, ◌<◌, ◌≤◌, [], Bool, List, IfOk, IsSome, Some, length, slice_index_or};
+ghost use Rattle.std.specs.Prelude.{◌≡◌, ◌+◌, ◌*◌, ◌<◌, ◌≤◌, [], Bool, List, IfOk, IsSome, Some, length};
 ghost use Rattle.live_commit.specs.declared.phase.Phase.TheVariants.{Idle, Armed, Due, Void as VoidPhase};
 ghost use Rattle.run_journal.specs.declared.entry.Entry.TheVariants.{Call, Check, Void};
 ghost use Rattle.damon_types.specs.Space.{pages_of};
@@ -20,12 +20,9 @@ use crate::kept::{Kept1, KeptParts};
 use crate::named::Named;
 use crate::passes::load_all;
 use damon_control::{LiveScript, MAX_CALLS};
-use damon_core::Monitor;
 use live_commit::Phase;
 use page_words::{MonitorSeat, PageWords};
-use rand_pcg::Lcg64Xsh32;
-use run_journal::{Journal, make_call};
-use sampler::{draw_words, generator};
+use run_journal::{Journal, Replaying};
 use std::alloc::{AllocError, Global};
 use std::marker::{Model, PhantomData};
 
@@ -34,21 +31,17 @@ use std::marker::{Model, PhantomData};
 #[derive(Drop)]
 pub(crate) struct Machine<'a, N: Named> {
     script: &'a LiveScript,
-    monitor: Monitor,
+    replaying: Replaying,
     seat: MonitorSeat,
     journal: Journal,
-    random: Lcg64Xsh32,
-    drawn: u64,
     passes: u32,
-    // The random words of an aggregation; the room for them is taken once.
-    buffer: Vec<u32>,
-    // Places for the results of a pass, one for each row that there may be.
-    places: Vec<bool>,
+    // The results of the last check; the room for them is taken once.
+    hits: Vec<bool>,
     of: PhantomData<N>,
 }
 
 impl<'a, N: Named> Model for Machine<'a, N> {
-    ghost use Rattle.std.specs.Prelude.{length, vec_capacity};
+    ghost use Rattle.std.specs.Prelude.{vec_capacity};
     ghost use Rattle.run_journal.specs.Replay.{JournalValue};
     ghost use Rattle.damon_live.specs.Machine.{IsMachine};
 
@@ -56,8 +49,8 @@ impl<'a, N: Named> Model for Machine<'a, N> {
 
     ghost view = { λ m. m.journal.value };
 
-    ghost invariant = { λ m. IsMachine N.script N.table N.seats m.script.now m.monitor m.seat
-        m.journal m.random m.drawn m.passes (vec_capacity m.buffer) (length m.places.items) };
+    ghost invariant = { λ m. IsMachine N.script N.table N.seats m.script.now m.replaying m.seat
+        m.journal m.passes (vec_capacity m.hits) };
 }
 
 impl<'a, N: Named> Machine<'a, N> {
@@ -74,23 +67,16 @@ impl<'a, N: Named> Machine<'a, N> {
         requires product { N.script.passes * N.script.setup.cap ≤ MAX_RESULTS }
         ensures { IfOk result (λ m. m ≡ nothing_said) }
     {
-        // For their clauses alone: the space and the ranges are within their limits.
-        let (_targets, _ranges) = (script.setup.space.targets(), script.setup.ranges.len());
-        let monitor = Monitor::new(alloc, &script.setup)?;
+        let replaying = Replaying::new(alloc, script.seed, &script.setup)?;
         let journal = Journal::new(alloc, script.passes, script.setup.cap, MAX_CALLS)?;
-        let buffer = Vec::with_capacity(alloc, 2 * script.setup.cap as usize)?;
-        let places = vec![in alloc; false; script.setup.cap as usize]?;
-        let random = generator(script.seed);
+        let hits = Vec::with_capacity(alloc, script.setup.cap as usize)?;
         Ok(Machine {
             script,
-            monitor,
+            replaying,
             seat,
             journal,
-            random,
-            drawn: 0,
             passes: 0,
-            buffer,
-            places,
+            hits,
             of: PhantomData,
         })
     }
@@ -99,7 +85,7 @@ impl<'a, N: Named> Machine<'a, N> {
     pub(crate) fn phase(&self) -> Phase
         ensures { result ≡ (replay N.script self.now).state.core.phase }
     {
-        self.monitor.phase()
+        self.replaying.monitor().phase()
     }
 
     /// The passes that were prepared.
@@ -107,25 +93,6 @@ impl<'a, N: Named> Machine<'a, N> {
         ensures { result ≡ passes_made self.now }
     {
         self.passes
-    }
-
-    /// The passes that the script asks for.
-    pub(crate) fn limit(&self) -> u32
-        ensures { result ≡ N.script.passes }
-    {
-        self.script.passes
-    }
-
-    /// How many calls of a controller are in the script.
-    pub(crate) fn call_limit(&self, controller: u32) -> u32
-        ensures { result ≡ length (slice_index_or N.script.controllers controller []) }
-    {
-        let controllers = &self.script.controllers;
-        if controller < controllers.len() {
-            controllers.get(controller).len()
-        } else {
-            0
-        }
     }
 
     /// Prepares a pass and clears its picks. The phase is Idle, and not all passes were made.
@@ -137,13 +104,14 @@ impl<'a, N: Named> Machine<'a, N> {
         ensures armed { (replay N.script self.new).state.core.phase ≡ Armed }
         ensures made { passes_made self.new ≡ passes_made self.old + 1 }
     {
-        let pass = self.monitor.ticks() + 1;
-        let at = self.drawn;
-        let rows = self.monitor.rows().len();
-        self.monitor.prepare_from(&mut self.random);
-        self.drawn += u64::from(rows);
-        words.clear_each(&mut self.seat, self.monitor.picks().pages(), pass);
-        self.monitor.cleared_next(rows);
+        let pass = self.replaying.monitor().ticks() + 1;
+        let at = self.replaying.drawn();
+        self.replaying.prepare();
+        words.clear_each(
+            &mut self.seat,
+            self.replaying.monitor().picks().pages(),
+            pass,
+        );
         self.journal.prepare(pass, at);
         self.passes += 1;
     }
@@ -157,10 +125,15 @@ impl<'a, N: Named> Machine<'a, N> {
         ensures ended { IsBetween (replay N.script self.new).state.core.phase }
         ensures made { passes_made self.new ≡ passes_made self.old }
     {
-        let pass = self.monitor.ticks() + 1;
-        load_all(words, &mut self.seat, &mut self.monitor, &mut self.places);
-        self.journal.check(pass, self.monitor.picks());
-        self.monitor.observe();
+        let pass = self.replaying.monitor().ticks() + 1;
+        load_all(
+            words,
+            &mut self.seat,
+            self.replaying.monitor(),
+            &mut self.hits,
+        );
+        self.journal.check(pass, &self.hits);
+        self.replaying.check(&self.hits);
     }
 
     /// Ends a void pass. The phase is Void.
@@ -171,8 +144,8 @@ impl<'a, N: Named> Machine<'a, N> {
         ensures ended { IsBetween (replay N.script self.new).state.core.phase }
         ensures made { passes_made self.new ≡ passes_made self.old }
     {
-        let pass = self.monitor.ticks() + 1;
-        self.monitor.observe();
+        let pass = self.replaying.monitor().ticks() + 1;
+        self.replaying.void();
         self.journal.void(pass);
     }
 
@@ -183,12 +156,9 @@ impl<'a, N: Named> Machine<'a, N> {
         ensures idle { (replay N.script self.new).state.core.phase ≡ Idle }
         ensures made { passes_made self.new ≡ passes_made self.old }
     {
-        let tick = self.monitor.ticks();
-        let at = self.drawn;
-        let max = self.monitor.attrs().max;
-        draw_words(&mut self.random, 2 * max as usize, &mut self.buffer);
-        self.drawn += 2 * u64::from(max);
-        self.monitor.aggregate(&self.buffer);
+        let tick = self.replaying.monitor().ticks();
+        let at = self.replaying.drawn();
+        self.replaying.aggregate();
         self.journal.aggregate(tick, at);
     }
 
@@ -207,7 +177,7 @@ impl<'a, N: Named> Machine<'a, N> {
         ensures made { passes_made self.new ≡ passes_made self.old }
     {
         let call = self.script.controllers.get(controller).get(index);
-        let answer = make_call(&mut self.monitor, call);
+        let answer = self.replaying.call(call);
         let place = self.journal.call(controller, index, answer);
         Kept1 { place, answer }
     }
@@ -233,18 +203,15 @@ impl<'a, N: Named> Machine<'a, N> {
     {
         let Machine {
             script: _,
-            monitor,
+            replaying,
             seat,
             journal,
-            random: _,
-            drawn: _,
             passes: _,
-            buffer: _,
-            places: _,
+            hits: _,
             of: _,
         } = self;
         KeptParts {
-            monitor,
+            monitor: replaying.into_monitor(),
             seat,
             journal,
         }

@@ -111,10 +111,3 @@ grown v j e bs is fits none =
 pub grows_by_entry : (v : LiveValue) (j new : JournalValue) (e : Entry) (bits : List Bool) → new ≡ longer j e bits → IsJournalOf v j
     → EntryFits v (replay_with v j bits) e → (carried v (replay_with v j bits) e).bits ≡ [] → IsGrown v j new e bits
 grows_by_entry v j new e bs same is fits none = subst (λ x. IsGrown v j x e bs) (sym same) (grown v j e bs is fits none)
-
--- without results
-pub grows_by_other : (v : LiveValue) (j new : JournalValue) (e : Entry) → new ≡ record j { entries = j.entries ++ e ∷ [] } → IsJournalOf v j
-    → EntryFits v (replay v j) e → (carried v (replay v j) e).bits ≡ [] → IsGrown v j new e []
-grows_by_other v j new e same is fits none =
-    let r : replay_with v j [] ≡ replay v j = ap (λ l. record (replay v j) { bits = l }) (sym is.none_left) in
-    grows_by_entry v j new e [] (same ∙ ap (λ l. record { entries = j.entries ++ e ∷ []; bits = l }) (sym (append-nil j.bits))) is (subst (λ x. EntryFits v x e) (sym r) fits) (ap (λ x. (carried v x e).bits) r ∙ none)

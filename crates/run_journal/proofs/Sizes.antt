@@ -1,5 +1,5 @@
 -- The regions and the ranges of each state are at most `cap`.
-use Rattle.std.proofs.Common.{◌≡◌, ℕ, ◌≤◌, Bool, List, [], ◌∷◌, length, Option, Some, None, Ok, Err, refl, ◌∙◌, arith}
+use Rattle.std.proofs.Common.{◌≡◌, ℕ, ◌≤◌, Bool, List, [], ◌∷◌, length, Option, Some, None, Ok, Err, refl, ap, ◌∙◌, arith}
 use Rattle.std.specs.Prelude.{Result}
 use Rattle.std.specs.Option.{unwrap_or}
 use Rattle.damon_types.specs.declared.attrs.Attrs.{Attrs}
@@ -19,6 +19,10 @@ use Rattle.damon_core.specs.Reached.{CanOpen, run}
 use Rattle.damon_core.specs.State.{Core, State, opening_core}
 use Rattle.target_ranges.proofs.Lemmas.{checked_ranges-room, made_each}
 use Rattle.live_commit.proofs.Lemmas.{commit_accepted}
+use Rattle.damon_control.specs.Live.{LiveValue}
+use Rattle.run_journal.specs.declared.entry.Entry.{Entry}
+use Rattle.run_journal.specs.Replay.{JournalValue, Replayed, begun, carried, entry_events, replay_from}
+use Rattle.run_journal.specs.Replaying.{IsReplayOf, ReplayingView}
 
 -- the regions that are allowed, and the ranges, are at most this many
 abbrev pub IsWithin : ℕ → Core → Type 0
@@ -95,3 +99,13 @@ after_within cap s show within = within
 pub run_within : (cap : ℕ) (s : State) (es : List Event) → IsWithin cap s.core → IsWithin cap (run s es).core
 run_within cap s [] within = within
 run_within cap s (e ∷ es) within = run_within cap (after s e) es (after_within cap s e within)
+
+-- ---- entries
+
+entries_within : (v : LiveValue) (r : Replayed) (es : List Entry) → IsWithin v.setup.cap r.state.core → IsWithin v.setup.cap (replay_from v r es).state.core
+entries_within v r [] within = within
+entries_within v r (e ∷ es) within = entries_within v (carried v r e) es (run_within v.setup.cap r.state (entry_events v r e) within)
+
+-- a monitor that carries out a journal allows as many regions as the setup
+pub cap_kept : (v : LiveValue) (j : JournalValue) (r : ReplayingView) → IsReplayOf v j r → r.monitor.core.regions.cap ≡ v.setup.cap
+cap_kept v j r h = ap (λ (c : Core). c.regions.cap) h.stands.same ∙ (entries_within v (begun v j.bits) j.entries (opening_within v.setup h.opens)).0

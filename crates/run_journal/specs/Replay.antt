@@ -3,7 +3,7 @@ use Rattle.std.specs.Prelude.{◌≡◌, ℕ, ◌+◌, ◌*◌, ◌≤◌, Bool,
 use Rattle.std.specs.Option.{option_map_or}
 use Rattle.live_commit.specs.declared.fault.CommitFault.{CommitFault}
 use Rattle.damon_core.specs.declared.changed.Changed.{Changed}
-use Rattle.damon_core.specs.Commit.{commit_answer, core_after_commit}
+use Rattle.damon_core.specs.Commit.{commit_answer}
 use Rattle.damon_core.specs.Event.{Event, prepare, load, observe, aggregate, commit, show}
 use Rattle.damon_core.specs.Reached.{run}
 use Rattle.damon_core.specs.Several.{clears}
@@ -45,11 +45,6 @@ answer_of (Err fault) = Refused fault
 abbrev pub call_answer : CallValue → Core → CallAnswer
 call_answer ShowCall c = Shown c.ticks (row_count c)
 call_answer (CommitCall parts) c = answer_of (commit_answer parts c)
-
--- what a monitor shows after a call; a show changes nothing
-abbrev pub core_after_call : CallValue → Core → Core
-core_after_call ShowCall c = c
-core_after_call (CommitCall parts) c = core_after_commit parts c
 
 -- how many random words an entry takes
 abbrev pub words_taken : Core → Entry → ℕ

@@ -3,17 +3,16 @@ ghost use Rattle.std.specs.Prelude.{◌≡◌, [], ◌∷◌};
 ghost use Rattle.damon_control.specs.LiveView.{call_value};
 ghost use Rattle.damon_core.specs.Makes.{Makes};
 ghost use Rattle.damon_core.specs.Stands.{Stands, last_pass};
-ghost use Rattle.run_journal.specs.Replay.{call_answer, call_event, core_after_call};
+ghost use Rattle.run_journal.specs.Replay.{call_answer, call_event};
 
 use crate::entry::CallAnswer;
 use damon_control::Call;
 use damon_core::Monitor;
 
 /// Makes a call, and returns its answer. Takes no memory.
-pub fn make_call(monitor: &mut Monitor, call: &Call) -> CallAnswer
+pub(crate) fn make_call(monitor: &mut Monitor, call: &Call) -> CallAnswer
     ensures event { Makes Stands monitor.old monitor.new (call_event (call_value call.now) ∷ []) }
     ensures answer { result ≡ call_answer (call_value call.now) monitor.old.core }
-    ensures core { monitor.new.core ≡ core_after_call (call_value call.now) monitor.old.core }
 
     // What no call changes.
     ensures ticks { monitor.new.core.ticks ≡ monitor.old.core.ticks }

@@ -4,7 +4,6 @@ ghost use Rattle.run_journal.specs.Results.{loads_in};
 use crate::entry::{CallAnswer, Entry};
 use crate::load_run::LoadRun;
 use page_bits::BitSet;
-use sampler::Picks;
 use std::alloc::{AllocError, Global};
 use std::marker::Model;
 
@@ -116,13 +115,13 @@ impl Journal {
 
     /// Appends that a pass is checked, with the results of its picks. An entry and as many results must
     /// still fit.
-    pub fn check(&mut self, pass: u64, picks: &Picks)
+    pub fn check(&mut self, pass: u64, hits: &[bool])
         requires room { length self.old.value.entries < self.old.room }
-        requires bits { length self.old.value.bits + length picks.now.bits ≤ self.old.bit_room }
-        ensures { self.new ≡ with_entry (Check pass) (with_results picks.now.bits self.old) }
+        requires bits { length self.old.value.bits + length hits.now ≤ self.old.bit_room }
+        ensures { self.new ≡ with_entry (Check pass) (with_results hits.now self.old) }
     {
-        let count = picks.len();
-        self.loads.put_each(self.loaded, picks.bits());
+        self.loads.put_each(self.loaded, hits);
+        let count = hits.len() as u32;
         self.loaded += count;
         self.checked.push_reserved(count);
         self.entries.push_reserved(Entry::Check { pass });

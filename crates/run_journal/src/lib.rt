@@ -26,7 +26,6 @@ mod results;
 mod words;
 
 pub use bits::{BitList, BitPlace, BitRun, CheckResults};
-pub use calls::make_call;
 pub use entry::{CallAnswer, Entry, Receipt, Receipts};
 pub use journal::Journal;
 pub use lawful::{Lawful, VerifyFault};

@@ -70,6 +70,19 @@ impl Replaying {
         &self.monitor
     }
 
+    /// The monitor after the last entry.
+    pub fn into_monitor(self) -> Monitor
+        ensures { result ≡ self.monitor }
+    {
+        let Replaying {
+            monitor,
+            words: _,
+            drawn: _,
+            buffer: _,
+        } = self;
+        monitor
+    }
+
     /// How many random words were drawn.
     pub fn drawn(&self) -> u64
         ensures { result ≡ self.now.drawn }
