@@ -8,7 +8,7 @@ use Rattle.std.specs.Prelude.{◌≢◌, All, if◌then◌else◌, slice_get, sl
 use Rattle.std.specs.List.{list_any}
 use Rattle.damon_types.proofs.Lemmas.{or_false}
 use Rattle.run_journal.specs.declared.entry.Receipt.{Receipt}
-use Rattle.journal_check.specs.Ahead.{AreNamedEarly, IsAhead, IsUnset, ShowsTag, is_named, is_picked, named_by_none, receipts_of}
+use Rattle.journal_check.specs.Ahead.{AreNamedEarly, IsAhead, IsUnset, is_named, is_picked, named_by_none, receipts_of}
 use Rattle.journal_text.specs.SeenLine.{is_receipt}
 use Rattle.journal_check.specs.TagOrder.{AreOfTag}
 use Rattle.journal_check.proofs.TagOrder.{index_of_tag, none_with_tag, page_at, pages_of_tag}
@@ -62,17 +62,17 @@ sets_all tag xs indexes v before now k page are over inside left =
 
 -- What a loop over the receipts with the number of a pass keeps of their names: when those that are left are named that are due,
 -- all are.
-pub record NamesLeft (xs : List (ℕ × Receipt)) (picked before now : List Bool) (indexes left : List ℕ) : Type 0 where
+pub record NamesLeft (xs : List (ℕ × Receipt)) (marked before now : List Bool) (indexes left : List ℕ) : Type 0 where
   pub each : (i : ℕ) (d : ℕ × Receipt) → i < length xs
-      → (get_or now i false || (list_any (λ j. j == i) left && get_or picked (get_or xs i d).1.page false))
-      ≡ (get_or before i false || (list_any (λ j. j == i) indexes && get_or picked (get_or xs i d).1.page false))
+      → (get_or now i false || (list_any (λ j. j == i) left && get_or marked (get_or xs i d).1.page false))
+      ≡ (get_or before i false || (list_any (λ j. j == i) indexes && get_or marked (get_or xs i d).1.page false))
   pub len : length now ≡ length before
 
 -- one is named
-pub names_next : (xs : List (ℕ × Receipt)) (picked before now : List Bool) (indexes : List ℕ) (k i : ℕ) (hit : Bool) → k < length indexes → i ≡ get_or indexes k 0 → i < length now → ((d : ℕ × Receipt) → hit ≡ get_or picked (get_or xs i d).1.page false)
-    → NamesLeft xs picked before now indexes (drop k indexes) → NamesLeft xs picked before (slice_set now i (get_or now i false || hit)) indexes (drop (k + 1) indexes)
-names_next xs picked before now indexes k i hit below index within hit_is left = record {
-  each = λ j d inside. by j d (i == j) refl ∙ (ap (λ l. get_or now j false || (list_any (λ m. m == j) l && get_or picked (get_or xs j d).1.page false)) (sym first) ∙ left.each j d inside);
+pub names_next : (xs : List (ℕ × Receipt)) (marked before now : List Bool) (indexes : List ℕ) (k i : ℕ) (hit : Bool) → k < length indexes → i ≡ get_or indexes k 0 → i < length now → ((d : ℕ × Receipt) → hit ≡ get_or marked (get_or xs i d).1.page false)
+    → NamesLeft xs marked before now indexes (drop k indexes) → NamesLeft xs marked before (slice_set now i (get_or now i false || hit)) indexes (drop (k + 1) indexes)
+names_next xs marked before now indexes k i hit below index within hit_is left = record {
+  each = λ j d inside. by j d (i == j) refl ∙ (ap (λ l. get_or now j false || (list_any (λ m. m == j) l && get_or marked (get_or xs j d).1.page false)) (sym first) ∙ left.each j d inside);
   len = length-set now i (get_or now i false || hit) ∙ left.len;
 }
   where
@@ -86,28 +86,28 @@ names_next xs picked before now indexes k i hit below index within hit_is left =
     joined false false false = refl
 
     by : (j : ℕ) (d : ℕ × Receipt) (same : Bool) → (i == j) ≡ same
-        → (get_or (slice_set now i (get_or now i false || hit)) j false || (list_any (λ m. m == j) (drop (k + 1) indexes) && get_or picked (get_or xs j d).1.page false))
-        ≡ (get_or now j false || ((same || list_any (λ m. m == j) (drop (k + 1) indexes)) && get_or picked (get_or xs j d).1.page false))
+        → (get_or (slice_set now i (get_or now i false || hit)) j false || (list_any (λ m. m == j) (drop (k + 1) indexes) && get_or marked (get_or xs j d).1.page false))
+        ≡ (get_or now j false || ((same || list_any (λ m. m == j) (drop (k + 1) indexes)) && get_or marked (get_or xs j d).1.page false))
     by j d true same =
         let is : j ≡ i = grind (arith, nat_tests, same) in
         let rest = list_any (λ m. m == j) (drop (k + 1) indexes) in
-        let own : get_or picked (get_or xs j d).1.page false ≡ hit = ap (λ m. get_or picked (get_or xs m d).1.page false) is ∙ sym (hit_is d) in
+        let own : get_or marked (get_or xs j d).1.page false ≡ hit = ap (λ m. get_or marked (get_or xs m d).1.page false) is ∙ sym (hit_is d) in
         let set_is : get_or (slice_set now i (get_or now i false || hit)) j false ≡ (get_or now i false || hit) = get_or-set_at now i j (get_or now i false || hit) false is within in
-        ap (λ b. b || (rest && get_or picked (get_or xs j d).1.page false)) set_is
+        ap (λ b. b || (rest && get_or marked (get_or xs j d).1.page false)) set_is
         ∙ (ap (λ b. (get_or now i false || hit) || (rest && b)) own
         ∙ (joined (get_or now i false) hit rest
         ∙ (ap (λ m. get_or now m false || hit) (sym is) ∙ ap (λ b. get_or now j false || b) (sym own))))
     by j d false same =
         let other : j ≢ i = λ is. absurd (grind (arith, nat_tests, same, is)) in
-        ap (λ b. b || (list_any (λ m. m == j) (drop (k + 1) indexes) && get_or picked (get_or xs j d).1.page false)) (get_or-set_other now i j (get_or now i false || hit) false other)
+        ap (λ b. b || (list_any (λ m. m == j) (drop (k + 1) indexes) && get_or marked (get_or xs j d).1.page false)) (get_or-set_other now i j (get_or now i false || hit) false other)
 
 -- all are named
-pub names_all : (pass : ℕ) (xs : List (ℕ × Receipt)) (picked before now : List Bool) (indexes : List ℕ) (k i : ℕ) (d : ℕ × Receipt) → AreOfTag pass xs indexes → length indexes ≤ k → i < length xs
-    → NamesLeft xs picked before now indexes (drop k indexes) → get_or now i false ≡ (get_or before i false || ((pass == (get_or xs i d).1.tag) && get_or picked (get_or xs i d).1.page false))
-names_all pass xs picked before now indexes k i d are over inside left =
+pub names_all : (pass : ℕ) (xs : List (ℕ × Receipt)) (marked before now : List Bool) (indexes : List ℕ) (k i : ℕ) (d : ℕ × Receipt) → AreOfTag pass xs indexes → length indexes ≤ k → i < length xs
+    → NamesLeft xs marked before now indexes (drop k indexes) → get_or now i false ≡ (get_or before i false || ((pass == (get_or xs i d).1.tag) && get_or marked (get_or xs i d).1.page false))
+names_all pass xs marked before now indexes k i d are over inside left =
     sym (or_false (get_or now i false))
-    ∙ (ap (λ l. get_or now i false || (list_any (λ j. j == i) l && get_or picked (get_or xs i d).1.page false)) (sym (drop_all k indexes over))
-    ∙ (left.each i d inside ∙ ap (λ b. get_or before i false || (b && get_or picked (get_or xs i d).1.page false)) (index_of_tag pass i d xs indexes inside are)))
+    ∙ (ap (λ l. get_or now i false || (list_any (λ j. j == i) l && get_or marked (get_or xs i d).1.page false)) (sym (drop_all k indexes over))
+    ∙ (left.each i d inside ∙ ap (λ b. get_or before i false || (b && get_or marked (get_or xs i d).1.page false)) (index_of_tag pass i d xs indexes inside are)))
 
 -- a pass of which no receipt has the number names none
 pub not_named : (pass : ℕ) (picks : List ℕ) (xs : List (ℕ × Receipt)) (indexes : List ℕ) (i : ℕ) (d : ℕ × Receipt) (was : Bool) → length indexes ≡ 0 → i < length xs → AreOfTag pass xs indexes → was ≡ (was || is_named pass picks (get_or xs i d).1)
@@ -162,15 +162,10 @@ early_at_first receipts i d below named =
     omega (arith, none)
 
 -- receipts before the first pass
-pub ahead_at_first : (receipts : List (ℕ × Receipt)) (named picked received : List Bool) (pages : ℕ) → All (λ x. x.1.page < pages) receipts → named ≡ named_by_none receipts → picked ≡ replicate pages false → length received ≡ pages → ShowsTag 0 receipts received
-    → IsAhead receipts named picked received 0 pages
-ahead_at_first receipts named picked received pages within names empty marks shows = record {
+pub ahead_at_first : (receipts : List (ℕ × Receipt)) (named marked : List Bool) (pages : ℕ) → All (λ x. x.1.page < pages) receipts → named ≡ named_by_none receipts → marked ≡ replicate pages false → IsAhead receipts named marked
+ahead_at_first receipts named marked pages within names empty = record {
   count = ap length names ∙ length-map receipts (λ (x : ℕ × Receipt). x.1.tag == 0);
-  within = within;
+  within = subst (λ n. All (λ x. x.1.page < n) receipts) (sym (ap length empty ∙ length-replicate pages false)) within;
   tags = subst (AreNamedEarly receipts) (sym names) (early_at_first receipts);
-  table = ap length empty ∙ length-replicate pages false;
-  unpicked = λ page. ap (λ (table : List Bool). get_or table page false) empty ∙ unset_list pages page;
-  marks = marks;
-  early = omega arith;
-  shows = shows;
+  unmarked = λ page. ap (λ (table : List Bool). get_or table page false) empty ∙ unset_list pages page;
 }
