@@ -1,11 +1,9 @@
 -- What the reader keeps of the entries, after an entry that is no call.
-use Rattle.std.proofs.Common.{◌≡◌, ℕ, zero, suc, ◌+◌, ◌^◌, ◌≤◌, ◌<◌, ◌==◌, ◌||◌, Bool, true, false, not, List, [], ◌∷◌, ◌++◌, length, map, take, refl, sym, ap, ◌∙◌, subst, append-nil, length-append, arith}
-use Rattle.std.specs.Prelude.{cond, if◌then◌else◌, option_and_then, option_map, slice_index_or, Option, Some, None}
+use Rattle.std.proofs.Common.{◌≡◌, ℕ, ◌+◌, ◌^◌, ◌≤◌, ◌<◌, ◌==◌, ◌||◌, Bool, true, false, not, List, [], ◌∷◌, ◌++◌, length, map, take, refl, sym, ap, ◌∙◌, subst, append-nil, length-append, arith}
+use Rattle.std.specs.Prelude.{cond, slice_index_or}
 use Rattle.std.specs.List.{AllByRecursion, count_by}
 use Rattle.std.proofs.lemmas.List.Sums.{sum_by-append, sum_by_push}
 use Rattle.std.proofs.lemmas.List.{get_or-map, get_or_default, length-map, same_lists, take_all}
-use Rattle.line_text.specs.Line.{after_prefix}
-use Rattle.script_lines.specs.Words.{same_word}
 use Rattle.live_commit.specs.declared.phase.Phase.{Phase}
 use Rattle.live_commit.specs.Setup.{SetupValue}
 use Rattle.damon_types.specs.Space.{pages_of}
@@ -13,13 +11,12 @@ use Rattle.page_words.specs.declared.view.Entry.{Entry as Step}
 use Rattle.damon_core.specs.State.{Core, row_count}
 use Rattle.damon_control.specs.Live.{LiveValue}
 use Rattle.run_journal.specs.declared.entry.Entry.{Entry}
-use Rattle.run_journal.specs.declared.entry.Entry.TheVariants.{Prepare, Check, Void, Aggregate}
+use Rattle.run_journal.specs.declared.entry.Entry.TheVariants.{Prepare, Check}
 use Rattle.run_journal.specs.declared.entry.Receipt.{Receipt}
 use Rattle.journal_check.specs.declared.entries.fold.Fold.{Fold}
-use Rattle.journal_check.specs.declared.entries.kept.Kept.{Kept}
 use Rattle.run_journal.specs.declared.lawful.Lawful.{Lawful}
 use Rattle.journal_check.specs.Ahead.{AheadView, IsPrepared, is_named, named_by, named_by_none, receipts_of}
-use Rattle.journal_text.specs.EntryLine.{n_bits_of, said_entry}
+use Rattle.journal_text.specs.EntryLine.{said_entry}
 use Rattle.run_journal.specs.Counted.{CountsOf, prepares}
 use Rattle.journal_check.specs.Folding.{FoldStands, GoesOn, IsWithin, open_hits}
 use Rattle.run_journal.specs.Growth.{longer, replay_with}
@@ -27,7 +24,6 @@ use Rattle.journal_check.specs.Kept.{GainsEntry, IsKept, call_of}
 use Rattle.run_journal.specs.Replay.{JournalValue, Replayed, carried, replay}
 use Rattle.run_journal.specs.Replaying.{IsCarried, IsReplayOf, ReplayingView}
 use Rattle.journal_text.specs.SeenLine.{has_receipt, is_tag}
-use Rattle.journal_text.specs.Spelled.{check_front, spelled_aggregate, spelled_prepare, spelled_void}
 use Rattle.page_words.specs.PassSteps.{clear_steps, load_steps}
 use Rattle.run_journal.specs.Steps.{steps}
 use Rattle.journal_check.proofs.AheadLemmas.{named_same, tag_more}

@@ -1,7 +1,7 @@
 -- An entry that is carried out leads on through the states that are left.
-use Rattle.std.proofs.Common.{◌≡◌, ℕ, ◌+◌, ◌-◌, ◌^◌, ◌≤◌, ◌<◌, ◌==◌, Bool, true, false, List, [], ◌∷◌, ◌++◌, drop, get_or, length, map, take, Some, None, refl, sym, ap, ◌∙◌, subst, length-append, take-append-drop, arith}
+use Rattle.std.proofs.Common.{◌≡◌, ℕ, ◌+◌, ◌-◌, ◌^◌, ◌≤◌, ◌<◌, ◌==◌, Bool, true, false, List, [], ◌∷◌, ◌++◌, drop, get_or, length, map, Some, None, refl, sym, ap, ◌∙◌, subst, length-append, arith}
 use Rattle.std.proofs.lemmas.Bool.Decides.{nat_tests}
-use Rattle.std.proofs.lemmas.List.{drop-drop, drop-map, drop_all, drop_more, length-map}
+use Rattle.std.proofs.lemmas.List.{drop-map, drop_all, drop_more, length-map}
 use Rattle.std.specs.Prelude.{◌≢◌, Option, nat_lt}
 use Rattle.live_commit.specs.declared.phase.Phase.{Phase}
 use Rattle.live_commit.specs.declared.phase.Phase.TheVariants.{Idle, Armed, Checking, Clearing, Due, Void as VoidPhase}
@@ -18,7 +18,7 @@ use Rattle.run_journal.specs.Growth.{longer, replay_with}
 use Rattle.journal_check.specs.Kept.{call_of, calls_from, is_call_at, kept_call}
 use Rattle.run_journal.specs.Phases.{IsFree}
 use Rattle.run_journal.specs.Replay.{EntriesFit, EntryFits, JournalValue, Replayed, call_answer, call_at, carried, replay, replay_from}
-use Rattle.journal_check.specs.Replayer.{IsOnWay, KeepsWay, Leads, ReachesLast, ReachesNext, ReplayerView, replayer_of, replaying_of}
+use Rattle.journal_check.specs.Replayer.{IsOnWay, KeepsWay, Leads, ReachesLast, ReachesNext, ReplayerView, replaying_of}
 use Rattle.run_journal.specs.Replaying.{Carries, CarriesKnown, IsCarried, ReplayingView}
 use Rattle.run_journal.proofs.Lemmas.{carried-more, with_more}
 

@@ -86,11 +86,6 @@ pub record IsPrepared (now : ℕ) (picks : List ℕ) (before after : AheadView) 
 
 -- ---- which is refused
 
--- the receipts of each worker after more receipts
-abbrev pub seen_after : List (List Receipt) → List (ℕ × Receipt) → List (List Receipt)
-seen_after all [] = all
-seen_after all (x ∷ xs) = seen_after (with_receipt all x.0 x.1) xs
-
 -- the index of the first receipt that may not be seen after those before it
 abbrev pub first_refused : List Step → List (List Receipt) → List (ℕ × Receipt) → Option ℕ
 first_refused done all [] = None

@@ -45,7 +45,8 @@ pub(crate) fn name_due(
     ensures names { length named.new ≡ length named.old }
     ensures table { length marked.new ≡ length marked.old }
 {
-    if seen.of_tag(pass).is_empty() {
+    let first = seen.first(pass);
+    if first == seen.len() {
         return;
     }
     set_picks(marked, picks, true);
@@ -75,9 +76,10 @@ pub(crate) fn set_pages(table: &mut BitSet, seen: &SeenByTag, tag: u64, value: b
         else slice_index_or table.old page false) }
     ensures len { length table.new ≡ length table.old }
 {
-    let indexes = seen.of_tag(tag);
-    for index in indexes {
-        table.put(seen.get(*index as usize).1.page, value);
+    let mut index = seen.first(tag);
+    'receipts: while index < seen.len() {
+        table.put(seen.get(index).1.page, value);
+        index = seen.next(index);
     }
 }
 
@@ -92,11 +94,12 @@ fn name_marked(named: &mut BitSet, marked: &BitSet, seen: &SeenByTag, pass: u64)
         && slice_index_or marked.now (slice_index_or seen.now i d).1.page false)) }
     ensures len { length named.new ≡ length named.old }
 {
-    let indexes = seen.of_tag(pass);
-    for index in indexes {
-        let page = seen.get(*index as usize).1.page;
-        let is_named = named.has(*index) | marked.has(page);
-        named.put(*index, is_named);
+    let mut index = seen.first(pass);
+    'receipts: while index < named.len() as usize {
+        let place = index as u32;
+        let is_named = named.has(place) | marked.has(seen.get(index).1.page);
+        named.put(place, is_named);
+        index = seen.next(index);
     }
 }
 

@@ -1,47 +1,46 @@
-use Rattle.std.proofs.Common.{◌≡◌, ◌+◌, ◌<◌, ◌||◌, ℕ, Bool, false, length, drop, get_or, refl, sym, ap, subst, ◌∙◌, arith}
+use Rattle.std.proofs.Common.{◌≡◌, ◌<◌, ◌+◌, ◌||◌, ℕ, Bool, List, false, length, get_or, sym, ap, subst, ◌∙◌, arith}
 use Rattle.std.specs.Prelude.{slice_set}
 use Rattle.run_journal.specs.declared.entry.Receipt.{Receipt}
-use Rattle.journal_check.proofs.AheadTables.{NamesLeft, names_all, names_next}
+use Rattle.journal_check.specs.TagChains.{IsNextOf}
+use Rattle.journal_check.proofs.AheadTables.{NamesSo, names_first, names_next}
+use Rattle.journal_check.proofs.TagChains.{some_receipt}
 use Rattle.journal_check.proofs.receipts.named.name_marked.Goals as goal
 
--- the index of a receipt is one of a name, and its page is a page of the set
-pub has-requires : goal.has-requires
-has-requires c =
-    let k = c.loop-index.index-index in
-    let has = c.of_tag-indexes.ensures.only k 0 (omega (arith, c.loop-index-test.true)) in
-    omega (arith, has.within, c.requires.count, c.loop-index.invariant.len)
+pub receipts-init : goal.receipts-init
+receipts-init c = record { so = names_first c.args.pass c.args.seen.now c.args.marked.now c.args.named.now c.first-index.result c.first-index.ensures; own = c.first-index.ensures.own }
 
-pub has-requires-in-loop-index : goal.has-requires-in-loop-index
-has-requires-in-loop-index c =
-    let x = c.get-page.result in
-    let k = c.loop-index.index-index in
-    let i = get_or c.of_tag-indexes.result.now k 0 in
-    let has = c.of_tag-indexes.ensures.only k 0 (omega (arith, c.loop-index-test.true)) in
-    let page : x.1.page ≡ (get_or c.args.seen.now i x).1.page = ap (λ (y : ℕ × Receipt). y.1.page) (c.get-page.ensures x) in
-    omega (arith, page, c.requires.below i x has.within)
+pub has-requires-in-receipts : goal.has-requires-in-receipts
+has-requires-in-receipts c =
+    let x = c.get.result in
+    let inside : c.receipts.index < length c.args.seen.now = omega (arith, c.receipts-test.true, c.len.ensures, c.receipts.invariant.so.len, c.requires.count) in
+    let page : x.1.page ≡ (get_or c.args.seen.now c.receipts.index x).1.page = ap (λ (y : ℕ × Receipt). y.1.page) (c.get.ensures x) in
+    omega (arith, page, c.requires.below c.receipts.index x inside)
 
-pub put-requires : goal.put-requires
-put-requires c =
-    let k = c.loop-index.index-index in
-    let has = c.of_tag-indexes.ensures.only k 0 (omega (arith, c.loop-index-test.true)) in
-    omega (arith, has.within, c.requires.count, c.loop-index.invariant.len)
+pub next-index-requires-clause-early : goal.next-index-requires-clause-early
+next-index-requires-clause-early c = λ d.
+    let inside : c.receipts.index < length c.args.seen.now = omega (arith, c.receipts-test.true, c.len.ensures, c.receipts.invariant.so.len, c.requires.count) in
+    omega (arith, c.receipts.invariant.own d inside, c.requires.early)
 
-pub loop-index-preserved : goal.loop-index-preserved
-loop-index-preserved c =
+pub receipts-preserved : goal.receipts-preserved
+receipts-preserved c =
     let xs = c.args.seen.now in
-    let k = c.loop-index.index-index in
-    let indexes = c.of_tag-indexes.result.now in
-    let i = get_or indexes k 0 in
+    let k = c.receipts.index in
     let marked = c.args.marked.now in
-    let named = c.loop-index.named in
-    let hit = c.has-in-loop-index.result in
-    let below : k < length indexes = omega (arith, c.loop-index-test.true) in
-    let has = c.of_tag-indexes.ensures.only k 0 below in
-    let put : c.put.new.self ≡ slice_set named i (get_or named i false || hit) = c.put.ensures ∙ ap (λ (b : Bool). slice_set named i (b || hit)) c.has.ensures in
-    subst (λ now. NamesLeft xs marked c.args.named.now now indexes (drop (k + 1) indexes)) (sym put)
-    (names_next xs marked c.args.named.now named indexes k i hit below refl (omega (arith, has.within, c.requires.count, c.loop-index.invariant.len))
-    (λ d. c.has-in-loop-index.ensures ∙ ap (λ (y : ℕ × Receipt). get_or marked y.1.page false) (c.get-page.ensures d)) c.loop-index.invariant)
+    let named = c.receipts.named in
+    let hit = c.has-in-receipts.result in
+    let to = c.next-index.result in
+    let own = c.receipts.invariant.own in
+    let inside : k < length xs = omega (arith, c.receipts-test.true, c.len.ensures, c.receipts.invariant.so.len, c.requires.count) in
+    let on : IsNextOf c.args.pass xs (k + 1) to = subst (λ t. IsNextOf t xs (k + 1) to) (own some_receipt inside) (c.next-index.ensures some_receipt) in
+    let put : c.put.new.self ≡ slice_set named k (get_or named k false || hit) = c.put.ensures ∙ ap (λ (b : Bool). slice_set named k (b || hit)) c.has.ensures in
+    record {
+      so = subst (λ (now : List Bool). NamesSo c.args.pass xs marked c.args.named.now now to) (sym put)
+          (names_next c.args.pass xs marked c.args.named.now named k to hit (omega (arith, c.receipts-test.true, c.len.ensures)) (λ d. c.has-in-receipts.ensures ∙ ap (λ (y : ℕ × Receipt). get_or marked y.1.page false) (c.get.ensures d)) (λ d. own d inside) on c.receipts.invariant.so);
+      own = on.own;
+    }
+
+pub receipts-smaller : goal.receipts-smaller
+receipts-smaller c = let next = c.next-index.ensures some_receipt in omega (arith, next.later, c.receipts-test.true, c.len.ensures, c.receipts.invariant.so.len, c.requires.count)
 
 pub returns-clause-each : goal.returns-clause-each
-returns-clause-each c = λ i d below.
-    names_all c.args.pass c.args.seen.now c.args.marked.now c.args.named.now c.loop-index.named c.of_tag-indexes.result.now c.loop-index.index-index i d c.of_tag-indexes.ensures (omega (arith, c.loop-index-test.false)) below c.loop-index.invariant
+returns-clause-each c = λ i d below. c.receipts.invariant.so.done i d below (omega (arith, below, c.receipts-test.false, c.len.ensures, c.receipts.invariant.so.len, c.requires.count))

@@ -1,9 +1,9 @@
-use Rattle.std.proofs.Common.{ℕ, [], refl, sym, ap, ◌∙◌, arith}
+use Rattle.std.proofs.Common.{[], refl, sym, ap, ◌∙◌, arith}
 use Rattle.std.specs.Prelude.{if◌then◌else◌, Some, None}
 use Rattle.live_commit.specs.declared.phase.Phase.TheVariants.{Due}
 use Rattle.run_journal.specs.declared.entry.Entry.TheVariants.{Aggregate}
 use Rattle.journal_check.specs.declared.entries.fold.Fold.{Fold}
-use Rattle.journal_check.proofs.EntriesTaken.{SameRest, entry_goes, quiet_stands, said_in}
+use Rattle.journal_check.proofs.EntriesTaken.{entry_goes, quiet_stands, said_in}
 use Rattle.journal_check.proofs.entries.fold.Fold.take_aggregate.Goals as goal
 
 pub returns-then-not-wants_aggregate-clause-taken : goal.returns-then-not-wants_aggregate-clause-taken

@@ -1,9 +1,9 @@
-use Rattle.std.proofs.Common.{ℕ, ◌+◌, [], refl, sym, ap, ◌∙◌, arith}
+use Rattle.std.proofs.Common.{◌+◌, [], refl, sym, ap, ◌∙◌, arith}
 use Rattle.std.specs.Prelude.{if◌then◌else◌, Some, None}
 use Rattle.live_commit.specs.declared.phase.Phase.TheVariants.{Void as VoidPhase}
 use Rattle.run_journal.specs.declared.entry.Entry.TheVariants.{Void}
 use Rattle.journal_check.specs.declared.entries.fold.Fold.{Fold}
-use Rattle.journal_check.proofs.EntriesTaken.{SameRest, entry_goes, quiet_stands, said_in}
+use Rattle.journal_check.proofs.EntriesTaken.{entry_goes, quiet_stands, said_in}
 use Rattle.journal_check.proofs.entries.fold.Fold.take_void.Goals as goal
 
 pub returns-then-not-wants_void-clause-taken : goal.returns-then-not-wants_void-clause-taken
