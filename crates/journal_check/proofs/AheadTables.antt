@@ -1,24 +1,17 @@
 -- Tables by page and by receipt, which passes set.
-use Rattle.std.proofs.Common.{◌≡◌, ℕ, zero, suc, ◌+◌, ◌≤◌, ◌<◌, ◌==◌, ◌&&◌, ◌||◌, Bool, true, false, List, [], ◌∷◌, length, drop, map, get_or, refl, sym, ap, subst, ◌∙◌, arith}
+use Rattle.std.proofs.Common.{◌≡◌, ◌⊎◌, inl, inr, ℕ, zero, suc, ◌+◌, ◌≤◌, ◌<◌, ◌==◌, ◌&&◌, ◌||◌, Bool, true, false, List, [], ◌∷◌, length, get_or, refl, sym, ap, subst, ◌∙◌, arith}
+use Rattle.std.proofs.lemmas.Bool.{cases_eq, cases_lt}
 use Rattle.std.proofs.lemmas.Bool.Decides.{nat_tests}
-use Rattle.std.proofs.lemmas.List.{drop_all, drop_more, get_or-map, get_or-set_other, length-map, length-replicate, length-set}
+use Rattle.std.proofs.lemmas.List.{get_or-map, get_or-set_other, length-map, length-replicate, length-set}
 use Rattle.std.proofs.lemmas.List.FromFn.{fill_by_all}
 use Rattle.std.proofs.lemmas.Grind.{get_or-set_at}
 use Rattle.std.specs.Prelude.{◌≢◌, All, if◌then◌else◌, slice_get, slice_set, Some, replicate}
-use Rattle.std.specs.List.{list_any}
 use Rattle.damon_types.proofs.Lemmas.{or_false}
 use Rattle.run_journal.specs.declared.entry.Receipt.{Receipt}
-use Rattle.journal_check.specs.Ahead.{AreNamedEarly, IsAhead, IsUnset, ShowsTag, is_named, is_picked, named_by_none, receipts_of}
-use Rattle.journal_text.specs.SeenLine.{is_receipt}
-use Rattle.journal_check.specs.TagOrder.{AreOfTag}
-use Rattle.journal_check.proofs.TagOrder.{index_of_tag, none_with_tag, page_at, pages_of_tag}
+use Rattle.journal_check.specs.Ahead.{AreNamedEarly, IsAhead, IsUnset, NamesMore, is_picked, named_by_none}
+use Rattle.journal_check.specs.TagChains.{IsNextOf}
 
 -- ---- tables that a loop sets
-
-set_first : {X : Type 0} (b rest : Bool) (v now : X) → (if rest then v else (if b then v else now)) ≡ (if b || rest then v else now)
-set_first true true v now = refl
-set_first true false v now = refl
-set_first false rest v now = refl
 
 -- the entry at an index after one entry was set
 set_at : (table : List Bool) (p page : ℕ) (v : Bool) → p < length table → get_or (slice_set table p v) page false ≡ (if p == page then v else get_or table page false)
@@ -28,14 +21,24 @@ set_at table p page v within = by (p == page) refl
     by true same = let is : page ≡ p = grind (arith, nat_tests, same) in get_or-set_at table p page v false is within
     by false same = let other : page ≢ p = λ is. absurd (grind (arith, nat_tests, same, is)) in get_or-set_other table p page v false other
 
--- A loop sets the entries of picks: when the pick with index k is set, the entries of the picks from k on would be set after it.
-pub set_next : (picks : List ℕ) (k p : ℕ) (table : List Bool) (v : Bool) (page : ℕ) → k < length picks → get_or picks k p ≡ p → p < length table
-    → (if is_picked (drop (k + 1) picks) page then v else get_or (slice_set table p v) page false) ≡ (if is_picked (drop k picks) page then v else get_or table page false)
-set_next picks k p table v page below is within =
-    ap (λ b. if is_picked (drop (k + 1) picks) page then v else b) (set_at table p page v within)
-    ∙ set_first (p == page) (is_picked (drop (k + 1) picks) page) v (get_or table page false)
-    ∙ ap (λ q. if (q == page) || is_picked (drop (k + 1) picks) page then v else get_or table page false) (sym is)
-    ∙ ap (λ l. if is_picked l page then v else get_or table page false) (sym (drop_more picks k p below))
+-- What a loop keeps of a table whose entries at some pages it sets: when those that are left are set too, they are those that were
+-- wanted.
+pub record SetsLeft (pages : List ℕ) (v : Bool) (before now : List Bool) (left : List ℕ) : Type 0 where
+  pub each : (page : ℕ) → page < length before → (if is_picked left page then v else get_or now page false) ≡ (if is_picked pages page then v else get_or before page false)
+  pub len : length now ≡ length before
+
+-- one is set
+pub sets_next : (pages : List ℕ) (v : Bool) (before now : List Bool) (p : ℕ) (left : List ℕ) → p < length now → SetsLeft pages v before now (p ∷ left) → SetsLeft pages v before (slice_set now p v) left
+sets_next pages v before now p left within sets = record {
+  each = λ page below.
+      ap (λ b. if is_picked left page then v else b) (set_at now p page v within) ∙ (set_first (p == page) (is_picked left page) (get_or now page false) ∙ sets.each page below);
+  len = length-set now p v ∙ sets.len;
+}
+  where
+    set_first : (b rest now : Bool) → (if rest then v else (if b then v else now)) ≡ (if b || rest then v else now)
+    set_first true true now = refl
+    set_first true false now = refl
+    set_first false rest now = refl
 
 -- an element by its index
 pub got : {X : Type 0} (xs : List X) (i : ℕ) (x d : X) → slice_get xs i ≡ Some x → get_or xs i d ≡ x
@@ -43,76 +46,58 @@ got [] i x d is = absurd cc
 got (y ∷ ys) zero x d is = cc
 got (y ∷ ys) (suc i) x d is = got ys i x d is
 
--- ---- tables that the receipts with one tag set
-
--- What a loop over the receipts with a tag keeps of a table: when the entries of the pages that are left are set too, they are those
--- that were wanted.
-pub record SetsLeft (pages : List ℕ) (v : Bool) (before now : List Bool) (left : List ℕ) : Type 0 where
-  pub each : (page : ℕ) → page < length before → (if is_picked left page then v else get_or now page false) ≡ (if is_picked pages page then v else get_or before page false)
-  pub len : length now ≡ length before
-
--- all are set
-pub sets_all : (tag : ℕ) (xs : List (ℕ × Receipt)) (indexes : List ℕ) (v : Bool) (before now : List Bool) (k page : ℕ) → AreOfTag tag xs indexes → length indexes ≤ k → page < length before
-    → SetsLeft (map (page_at xs) indexes) v before now (map (page_at xs) (drop k indexes)) → get_or now page false ≡ (if list_any (is_receipt page tag) (receipts_of xs) then v else get_or before page false)
-sets_all tag xs indexes v before now k page are over inside left =
-    ap (λ l. if is_picked (map (page_at xs) l) page then v else get_or now page false) (sym (drop_all k indexes over))
-    ∙ (left.each page inside ∙ ap (λ b. if b then v else get_or before page false) (pages_of_tag page tag xs indexes are))
-
 -- ---- which receipts a pass names
 
--- What a loop over the receipts with the number of a pass keeps of their names: when those that are left are named that are due,
--- all are.
-pub record NamesLeft (xs : List (ℕ × Receipt)) (picked before now : List Bool) (indexes left : List ℕ) : Type 0 where
-  pub each : (i : ℕ) (d : ℕ × Receipt) → i < length xs
-      → (get_or now i false || (list_any (λ j. j == i) left && get_or picked (get_or xs i d).1.page false))
-      ≡ (get_or before i false || (list_any (λ j. j == i) indexes && get_or picked (get_or xs i d).1.page false))
+-- What a loop over the receipts with the number of a pass keeps of their names: those before an index are named where they are due,
+-- and the others are as they were.
+pub record NamesSo (pass : ℕ) (xs : List (ℕ × Receipt)) (marked before now : List Bool) (index : ℕ) : Type 0 where
+  pub done : (i : ℕ) (d : ℕ × Receipt) → i < length xs → i < index → get_or now i false ≡ (get_or before i false || ((pass == (get_or xs i d).1.tag) && get_or marked (get_or xs i d).1.page false))
+  pub left : (i : ℕ) → index ≤ i → get_or now i false ≡ get_or before i false
   pub len : length now ≡ length before
 
+-- a receipt with another tag is not named
+not_named : (pass : ℕ) (r : Receipt) (was due : Bool) → r.tag ≢ pass → was ≡ (was || ((pass == r.tag) && due))
+not_named pass r was due apart =
+    let other : (pass == r.tag) ≡ false = grind (arith, nat_tests, apart) in
+    sym (ap (λ b. was || (b && due)) other ∙ or_false was)
+
+-- none is named before the first one with the tag
+pub names_first : (pass : ℕ) (xs : List (ℕ × Receipt)) (marked before : List Bool) (index : ℕ) → IsNextOf pass xs 0 index → NamesSo pass xs marked before before index
+names_first pass xs marked before index next = record {
+  done = λ i d below early. not_named pass (get_or xs i d).1 (get_or before i false) (get_or marked (get_or xs i d).1.page false) (next.none i d (omega arith) early);
+  left = λ i from. refl;
+  len = refl;
+}
+
 -- one is named
-pub names_next : (xs : List (ℕ × Receipt)) (picked before now : List Bool) (indexes : List ℕ) (k i : ℕ) (hit : Bool) → k < length indexes → i ≡ get_or indexes k 0 → i < length now → ((d : ℕ × Receipt) → hit ≡ get_or picked (get_or xs i d).1.page false)
-    → NamesLeft xs picked before now indexes (drop k indexes) → NamesLeft xs picked before (slice_set now i (get_or now i false || hit)) indexes (drop (k + 1) indexes)
-names_next xs picked before now indexes k i hit below index within hit_is left = record {
-  each = λ j d inside. by j d (i == j) refl ∙ (ap (λ l. get_or now j false || (list_any (λ m. m == j) l && get_or picked (get_or xs j d).1.page false)) (sym first) ∙ left.each j d inside);
-  len = length-set now i (get_or now i false || hit) ∙ left.len;
+pub names_next : (pass : ℕ) (xs : List (ℕ × Receipt)) (marked before now : List Bool) (k to : ℕ) (hit : Bool) → k < length now → ((d : ℕ × Receipt) → hit ≡ get_or marked (get_or xs k d).1.page false) → ((d : ℕ × Receipt) → (get_or xs k d).1.tag ≡ pass)
+    → IsNextOf pass xs (k + 1) to → NamesSo pass xs marked before now k → NamesSo pass xs marked before (slice_set now k (get_or now k false || hit)) to
+names_next pass xs marked before now k to hit within hit_is own next so = record {
+  done = λ i d below early. by i d below early (cases_eq i k);
+  left = λ i from.
+      let apart : i ≢ k = λ is. absurd (omega (arith, is, from, next.later)) in
+      get_or-set_other now k i (get_or now k false || hit) false apart ∙ so.left i (omega (arith, from, next.later));
+  len = length-set now k (get_or now k false || hit) ∙ so.len;
 }
   where
-    first : drop k indexes ≡ i ∷ drop (k + 1) indexes
-    first = drop_more indexes k 0 below ∙ ap (λ m. m ∷ drop (k + 1) indexes) (sym index)
-
-    joined : (now hit rest : Bool) → ((now || hit) || (rest && hit)) ≡ (now || hit)
-    joined true hit rest = refl
-    joined false true rest = refl
-    joined false false true = refl
-    joined false false false = refl
-
-    by : (j : ℕ) (d : ℕ × Receipt) (same : Bool) → (i == j) ≡ same
-        → (get_or (slice_set now i (get_or now i false || hit)) j false || (list_any (λ m. m == j) (drop (k + 1) indexes) && get_or picked (get_or xs j d).1.page false))
-        ≡ (get_or now j false || ((same || list_any (λ m. m == j) (drop (k + 1) indexes)) && get_or picked (get_or xs j d).1.page false))
-    by j d true same =
-        let is : j ≡ i = grind (arith, nat_tests, same) in
-        let rest = list_any (λ m. m == j) (drop (k + 1) indexes) in
-        let own : get_or picked (get_or xs j d).1.page false ≡ hit = ap (λ m. get_or picked (get_or xs m d).1.page false) is ∙ sym (hit_is d) in
-        let set_is : get_or (slice_set now i (get_or now i false || hit)) j false ≡ (get_or now i false || hit) = get_or-set_at now i j (get_or now i false || hit) false is within in
-        ap (λ b. b || (rest && get_or picked (get_or xs j d).1.page false)) set_is
-        ∙ (ap (λ b. (get_or now i false || hit) || (rest && b)) own
-        ∙ (joined (get_or now i false) hit rest
-        ∙ (ap (λ m. get_or now m false || hit) (sym is) ∙ ap (λ b. get_or now j false || b) (sym own))))
-    by j d false same =
-        let other : j ≢ i = λ is. absurd (grind (arith, nat_tests, same, is)) in
-        ap (λ b. b || (list_any (λ m. m == j) (drop (k + 1) indexes) && get_or picked (get_or xs j d).1.page false)) (get_or-set_other now i j (get_or now i false || hit) false other)
-
--- all are named
-pub names_all : (pass : ℕ) (xs : List (ℕ × Receipt)) (picked before now : List Bool) (indexes : List ℕ) (k i : ℕ) (d : ℕ × Receipt) → AreOfTag pass xs indexes → length indexes ≤ k → i < length xs
-    → NamesLeft xs picked before now indexes (drop k indexes) → get_or now i false ≡ (get_or before i false || ((pass == (get_or xs i d).1.tag) && get_or picked (get_or xs i d).1.page false))
-names_all pass xs picked before now indexes k i d are over inside left =
-    sym (or_false (get_or now i false))
-    ∙ (ap (λ l. get_or now i false || (list_any (λ j. j == i) l && get_or picked (get_or xs i d).1.page false)) (sym (drop_all k indexes over))
-    ∙ (left.each i d inside ∙ ap (λ b. get_or before i false || (b && get_or picked (get_or xs i d).1.page false)) (index_of_tag pass i d xs indexes inside are)))
+    by : (i : ℕ) (d : ℕ × Receipt) → i < length xs → i < to → (i ≡ k) ⊎ (i ≢ k)
+        → get_or (slice_set now k (get_or now k false || hit)) i false ≡ (get_or before i false || ((pass == (get_or xs i d).1.tag) && get_or marked (get_or xs i d).1.page false))
+    by i d below early (inl is) =
+        let test : (pass == (get_or xs k d).1.tag) ≡ true = grind (arith, nat_tests, own d) in
+        get_or-set_at now k i (get_or now k false || hit) false is within
+        ∙ (ap (λ b. b || hit) (so.left k (omega arith))
+        ∙ (ap (λ b. get_or before k false || b) (hit_is d ∙ ap (λ b. b && get_or marked (get_or xs k d).1.page false) (sym test))
+        ∙ ap (λ j. get_or before j false || ((pass == (get_or xs j d).1.tag) && get_or marked (get_or xs j d).1.page false)) (sym is)))
+    by i d below early (inr apart) = get_or-set_other now k i (get_or now k false || hit) false apart ∙ on (cases_lt i k)
+      where
+        on : (i < k) ⊎ (k ≤ i) → get_or now i false ≡ (get_or before i false || ((pass == (get_or xs i d).1.tag) && get_or marked (get_or xs i d).1.page false))
+        on (inl before_it) = so.done i d below before_it
+        on (inr after_it) =
+            so.left i after_it ∙ not_named pass (get_or xs i d).1 (get_or before i false) (get_or marked (get_or xs i d).1.page false) (next.none i d (omega (arith, after_it, apart)) early)
 
 -- a pass of which no receipt has the number names none
-pub not_named : (pass : ℕ) (picks : List ℕ) (xs : List (ℕ × Receipt)) (indexes : List ℕ) (i : ℕ) (d : ℕ × Receipt) (was : Bool) → length indexes ≡ 0 → i < length xs → AreOfTag pass xs indexes → was ≡ (was || is_named pass picks (get_or xs i d).1)
-not_named pass picks xs indexes i d was none below are =
-    sym (ap (λ b. was || (b && is_picked picks (get_or xs i d).1.page)) (none_with_tag pass i d xs indexes none below are) ∙ or_false was)
+pub names_none : (pass : ℕ) (picks : List ℕ) (xs : List (ℕ × Receipt)) (named : List Bool) → IsNextOf pass xs 0 (length xs) → NamesMore pass picks xs named named
+names_none pass picks xs named next = λ i d below. not_named pass (get_or xs i d).1 (get_or named i false) (is_picked picks (get_or xs i d).1.page) (next.none i d (omega arith) below)
 
 -- ---- which receipts name no pass
 
@@ -162,15 +147,10 @@ early_at_first receipts i d below named =
     omega (arith, none)
 
 -- receipts before the first pass
-pub ahead_at_first : (receipts : List (ℕ × Receipt)) (named picked received : List Bool) (pages : ℕ) → All (λ x. x.1.page < pages) receipts → named ≡ named_by_none receipts → picked ≡ replicate pages false → length received ≡ pages → ShowsTag 0 receipts received
-    → IsAhead receipts named picked received 0 pages
-ahead_at_first receipts named picked received pages within names empty marks shows = record {
+pub ahead_at_first : (receipts : List (ℕ × Receipt)) (named marked : List Bool) (pages : ℕ) → All (λ x. x.1.page < pages) receipts → named ≡ named_by_none receipts → marked ≡ replicate pages false → IsAhead receipts named marked
+ahead_at_first receipts named marked pages within names empty = record {
   count = ap length names ∙ length-map receipts (λ (x : ℕ × Receipt). x.1.tag == 0);
-  within = within;
+  within = subst (λ n. All (λ x. x.1.page < n) receipts) (sym (ap length empty ∙ length-replicate pages false)) within;
   tags = subst (AreNamedEarly receipts) (sym names) (early_at_first receipts);
-  table = ap length empty ∙ length-replicate pages false;
-  unpicked = λ page. ap (λ (table : List Bool). get_or table page false) empty ∙ unset_list pages page;
-  marks = marks;
-  early = omega arith;
-  shows = shows;
+  unmarked = λ page. ap (λ (table : List Bool). get_or table page false) empty ∙ unset_list pages page;
 }

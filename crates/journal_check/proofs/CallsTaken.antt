@@ -1,35 +1,30 @@
 -- What the reader keeps of the entries, after a call; and the first line of a call.
-use Rattle.std.proofs.Common.{◌≡◌, ℕ, zero, suc, ◌+◌, ◌<◌, ◌≤◌, Bool, true, false, List, [], ◌∷◌, ◌++◌, length, map, get_or, set, Some, None, refl, sym, ap, ◌∙◌, subst, append-nil, length-append, arith}
-use Rattle.std.specs.Prelude.{Option, sum_by, if◌then◌else◌}
-use Rattle.std.specs.List.{AllByRecursion, count_by}
+use Rattle.std.proofs.Common.{◌≡◌, ℕ, zero, suc, ◌+◌, ◌<◌, ◌≤◌, Bool, true, false, List, [], ◌∷◌, ◌++◌, length, map, get_or, set, Some, None, refl, sym, ap, ◌∙◌, subst, length-append, arith}
+use Rattle.std.specs.Prelude.{Option, if◌then◌else◌}
+use Rattle.std.specs.List.{AllByRecursion}
 use Rattle.std.specs.Option.{option_or}
-use Rattle.std.proofs.lemmas.List.Sums.{sum_by_push}
-use Rattle.damon_types.specs.Space.{pages_of}
 use Rattle.script_lines.specs.Words.{same_word}
 use Rattle.damon_core.specs.State.{Core}
-use Rattle.damon_core.specs.Stands.{last_pass}
 use Rattle.damon_control.specs.Live.{CallValue, LiveValue}
 use Rattle.run_journal.specs.declared.entry.CallAnswer.{CallAnswer}
-use Rattle.run_journal.specs.declared.entry.Entry.{Entry}
 use Rattle.run_journal.specs.declared.entry.Entry.TheVariants.{Call}
 use Rattle.journal_check.specs.declared.entries.fold.Fold.{Fold}
 use Rattle.journal_check.specs.declared.entries.calls.Asked.{Asked}
 use Rattle.journal_check.specs.declared.journal_lines.JournalLines.{JournalLines}
 use Rattle.run_journal.specs.declared.lawful.Lawful.{Lawful}
-use Rattle.journal_check.specs.Ahead.{AheadView, named_by, receipts_of}
+use Rattle.journal_check.specs.Ahead.{AheadView}
 use Rattle.journal_check.specs.CallLine.{place_asked}
 use Rattle.run_journal.specs.Growth.{added_to, calls_so_far, with_call_of, longer}
 use Rattle.journal_text.specs.EntryLine.{after_answer, after_call, after_call_of, after_entry, is_free, where_so}
-use Rattle.run_journal.specs.Counted.{CountsOf, prepares}
-use Rattle.journal_check.specs.Folding.{FoldStands, IsWithin, open_hits}
+use Rattle.journal_check.specs.Folding.{FoldStands, IsWithin}
 use Rattle.journal_check.specs.Kept.{GainsEntry}
 use Rattle.journal_check.specs.LinesLeft.{said_left, said_on}
 use Rattle.journal_text.specs.Place.{AtAnswer, InEntries, JournalPlace}
 use Rattle.run_journal.specs.Replay.{JournalValue, call_answer, replay}
 use Rattle.run_journal.specs.Replaying.{IsCarried}
 use Rattle.journal_text.specs.Spelled.{spelled_answer}
-use Rattle.run_journal.specs.Steps.{steps}
 use Rattle.journal_check.proofs.BlockTaken.{leads_on}
+use Rattle.journal_check.proofs.EntriesTaken.{all_later, entry_stands, within_more}
 use Rattle.journal_check.proofs.KeptEntries.{kept_after_call}
 use Rattle.journal_text.proofs.Lemmas.{counts-at, counts-length}
 
@@ -104,39 +99,17 @@ pub record KeepsRest (controller : ℕ) (call : CallValue) (old new : Fold) : Ty
   pub next : new.next ≡ set old.next controller (get_or old.next controller 0 + 1)
   pub ahead : new.ahead ≡ old.ahead
   pub space : new.replay.monitor.core.space ≡ old.replay.monitor.core.space
-  pub pass : last_pass new.replay.monitor.core.phase new.replay.monitor.core.ticks ≡ last_pass old.replay.monitor.core.phase old.replay.monitor.core.ticks
   pub open_is : new.unreceived ≡ old.unreceived
   pub counts : new.counts ≡ old.counts
   pub kept : GainsEntry old.kept new.kept [] ((old.kept.entries, Some call) ∷ [])
 
--- an entry that prepares no pass and has no results counts nothing
-counts_same : (j : JournalValue) (e : Entry) (old new : Lawful) → prepares e ≡ 0 → CountsOf j old → new ≡ old → CountsOf (longer j e []) new
-counts_same j e old new none was same =
-    let more : sum_by prepares j.entries ≡ sum_by prepares j.entries + prepares e = omega (arith, none) in
-    record {
-      passes = ap (λ (c : Lawful). c.passes) same ∙ (was.passes ∙ (more ∙ sym (sum_by_push prepares j.entries e)));
-      loads = ap (λ (c : Lawful). c.loads) same ∙ (was.loads ∙ ap length (sym (append-nil j.bits)));
-      hits = ap (λ (c : Lawful). c.hits) same ∙ (was.hits ∙ ap (count_by (λ bit. bit)) (sym (append-nil j.bits)));
-    }
-
 pub call_stands : (v : LiveValue) (j : JournalValue) (controller : ℕ) (call : CallValue) (answer : CallAnswer) (old new : Fold) → FoldStands v j old
     → IsCarried v (with_call_of v controller call) j (Call controller (length (calls_so_far v controller)) answer) [] new.replay → controller < length v.controllers → KeepsRest controller call old new
     → FoldStands (with_call_of v controller call) (longer j (Call controller (length (calls_so_far v controller)) answer) []) new
-call_stands v j controller call answer old new h carried_is below rest =
-    let e = Call controller (length (calls_so_far v controller)) answer in
-    let w = with_call_of v controller call in
-    let done : steps w (longer j e []) ≡ steps v j = carried_is.steps_are ∙ append-nil (steps v j) in
-    record {
-      replay = carried_is.replays;
-      version = rest.version ∙ h.version;
-      space = rest.space ∙ h.space;
-      next = rest.next ∙ (ap (λ (ns : List ℕ). set ns controller (get_or ns controller 0 + 1)) h.next ∙ one_more v.controllers controller call);
-      named = ap (λ (a : AheadView). a.named) rest.ahead ∙ (h.named ∙ (ap (λ (a : AheadView). named_by (steps v j) a.receipts) (sym rest.ahead) ∙ ap (λ ss. named_by ss new.ahead.receipts) (sym done)));
-      pass = ap (λ (a : AheadView). a.pass) rest.ahead ∙ (h.pass ∙ sym rest.pass);
-      open_is = rest.open_is ∙ (h.open_is ∙ (ap (λ (a : AheadView). open_hits (receipts_of a.receipts) (steps v j)) (sym rest.ahead) ∙ ap (open_hits (receipts_of new.ahead.receipts)) (sym done)));
-      counts = counts_same j e old.counts new.counts refl h.counts rest.counts;
-      kept = kept_after_call v j controller call answer old.kept new.kept h.replay.journal below h.kept rest.kept;
-    }
+call_stands v j controller call answer old new h c below rest =
+    let next = rest.next ∙ (ap (λ (ns : List ℕ). set ns controller (get_or ns controller 0 + 1)) h.next ∙ one_more v.controllers controller call) in
+    let kept = kept_after_call v j controller call answer old.kept new.kept h.replay.journal below h.kept rest.kept in
+    entry_stands v (with_call_of v controller call) j (Call controller (length (calls_so_far v controller)) answer) old new h c refl c.steps_are refl rest.version next rest.ahead rest.space rest.open_is rest.counts kept
 
 -- ---- the answer
 
@@ -157,10 +130,6 @@ answered_wrong v j controller call line answer told other =
     ∙ ap (λ (b : Bool). where_so b (place answer)) other
 
 -- ---- the numbers that are kept
-
-all_later : (ns : List ℕ) (n m : ℕ) → n ≤ m → AllByRecursion (λ k. k ≤ n) ns → AllByRecursion (λ k. k ≤ m) ns
-all_later [] n m later all = tt
-all_later (k ∷ ns) n m later all = (omega (arith, later, all.0), all_later ns n m later all.1)
 
 all_set : (ns : List ℕ) (i x m : ℕ) → x ≤ m → AllByRecursion (λ k. k ≤ m) ns → AllByRecursion (λ k. k ≤ m) (set ns i x)
 all_set [] i x m below all = tt
@@ -190,19 +159,13 @@ within_later f n m later w = record {
 -- a call, with at least one line
 pub within_call : (controller : ℕ) (call : CallValue) (old new : Fold) (n m : ℕ) → n + 1 ≤ m → IsWithin old n → KeepsRest controller call old new → new.replay.monitor.core.ticks ≡ old.replay.monitor.core.ticks → new.replay.drawn ≡ old.replay.drawn → IsWithin new m
 within_call controller call old new n m later w rest ticks drawn =
-    let within = within_later old n m (omega (arith, later)) w in
     let passes = ap (λ (c : Lawful). c.passes) rest.counts in
     let loads = ap (λ (c : Lawful). c.loads) rest.counts in
     let hits = ap (λ (c : Lawful). c.hits) rest.counts in
-    let few : get_or old.next controller 0 + 1 ≤ m = omega (arith, later, calls_within old.next controller n w.next) in
-    record {
-      ticks = omega (arith, ticks, within.ticks);
-      drawn = omega (arith, drawn, within.drawn);
-      next = subst (AllByRecursion (λ k. k ≤ m)) (sym rest.next) (all_set old.next controller _ m few within.next);
-      passes = omega (arith, passes, within.passes);
-      loads = omega (arith, loads, within.loads);
-      hits = omega (arith, hits, loads, w.hits);
-      open_few = omega (arith, rest.open_is, loads, w.open_few);
-      pages = ap (λ (a : AheadView). a.pages) rest.ahead ∙ (w.pages ∙ ap pages_of (sym rest.space));
-      entries = omega (arith, rest.kept.entries, w.entries, later);
-    }
+    let few : get_or old.next controller 0 + 1 ≤ n + 1 = omega (arith, calls_within old.next controller n w.next) in
+    let next : AllByRecursion (λ k. k ≤ n + 1) new.next =
+    subst (AllByRecursion (λ k. k ≤ n + 1)) (sym rest.next) (all_set old.next controller _ (n + 1) few (all_later old.next n (n + 1) (omega arith) w.next))
+    in
+    within_later new (n + 1) m later
+    (within_more old new n w next (ap (λ (a : AheadView). a.pages) rest.ahead) rest.space (omega (arith, ticks)) (omega (arith, drawn)) rest.kept.entries (omega (arith, passes)) (omega (arith, loads)) (omega (arith, hits, loads))
+    (omega (arith, rest.open_is, loads)))

@@ -1,57 +1,35 @@
 -- What the reader keeps of the entries, after an entry that is no call.
-use Rattle.std.proofs.Common.{◌≡◌, ℕ, zero, suc, ◌+◌, ◌^◌, ◌≤◌, ◌<◌, ◌==◌, ◌||◌, Bool, true, false, not, List, [], ◌∷◌, ◌++◌, length, map, take, refl, sym, ap, ◌∙◌, subst, append-nil, length-append, arith}
-use Rattle.std.specs.Prelude.{cond, if◌then◌else◌, option_and_then, option_map, slice_index_or, Option, Some, None}
+use Rattle.std.proofs.Common.{◌≡◌, ℕ, ◌+◌, ◌^◌, ◌≤◌, ◌<◌, ◌==◌, ◌||◌, Bool, true, false, not, List, [], ◌∷◌, ◌++◌, length, map, take, refl, sym, ap, ◌∙◌, subst, append-nil, length-append, arith}
+use Rattle.std.specs.Prelude.{cond, slice_index_or}
 use Rattle.std.specs.List.{AllByRecursion, count_by}
 use Rattle.std.proofs.lemmas.List.Sums.{sum_by-append, sum_by_push}
-use Rattle.std.proofs.lemmas.List.{take_all}
-use Rattle.line_text.specs.Line.{after_prefix}
-use Rattle.script_lines.specs.Words.{same_word}
-use Rattle.live_commit.specs.declared.phase.Phase.TheVariants.{Idle, Armed, Due, Void as VoidPhase}
+use Rattle.std.proofs.lemmas.List.{get_or-map, get_or_default, length-map, same_lists, take_all}
+use Rattle.live_commit.specs.declared.phase.Phase.{Phase}
+use Rattle.live_commit.specs.Setup.{SetupValue}
 use Rattle.damon_types.specs.Space.{pages_of}
 use Rattle.page_words.specs.declared.view.Entry.{Entry as Step}
 use Rattle.damon_core.specs.State.{Core, row_count}
-use Rattle.damon_core.specs.Stands.{last_pass}
 use Rattle.damon_control.specs.Live.{LiveValue}
 use Rattle.run_journal.specs.declared.entry.Entry.{Entry}
-use Rattle.run_journal.specs.declared.entry.Entry.TheVariants.{Prepare, Check, Void, Aggregate}
+use Rattle.run_journal.specs.declared.entry.Entry.TheVariants.{Prepare, Check}
 use Rattle.run_journal.specs.declared.entry.Receipt.{Receipt}
 use Rattle.journal_check.specs.declared.entries.fold.Fold.{Fold}
-use Rattle.journal_check.specs.declared.entries.kept.Kept.{Kept}
 use Rattle.run_journal.specs.declared.lawful.Lawful.{Lawful}
 use Rattle.journal_check.specs.Ahead.{AheadView, IsPrepared, is_named, named_by, named_by_none, receipts_of}
-use Rattle.journal_text.specs.EntryLine.{n_bits_of, said_entry}
+use Rattle.journal_text.specs.EntryLine.{said_entry}
 use Rattle.run_journal.specs.Counted.{CountsOf, prepares}
-use Rattle.journal_check.specs.Folding.{FoldStands, GoesOn, open_hits}
+use Rattle.journal_check.specs.Folding.{FoldStands, GoesOn, IsWithin, open_hits}
 use Rattle.run_journal.specs.Growth.{longer, replay_with}
-use Rattle.journal_check.specs.Kept.{GainsEntry, call_of}
+use Rattle.journal_check.specs.Kept.{GainsEntry, IsKept, call_of}
 use Rattle.run_journal.specs.Replay.{JournalValue, Replayed, carried, replay}
 use Rattle.run_journal.specs.Replaying.{IsCarried, IsReplayOf, ReplayingView}
 use Rattle.journal_text.specs.SeenLine.{has_receipt, is_tag}
-use Rattle.journal_text.specs.Spelled.{check_front, spelled_aggregate, spelled_prepare, spelled_void}
 use Rattle.page_words.specs.PassSteps.{clear_steps, load_steps}
 use Rattle.run_journal.specs.Steps.{steps}
 use Rattle.journal_check.proofs.AheadLemmas.{named_same, tag_more}
 use Rattle.journal_check.proofs.KeptEntries.{kept_more}
 
 -- ---- which receipts are named
-
--- lists of the same length with the same items
-same_at : (xs ys : List Bool) → length xs ≡ length ys → ((i : ℕ) → i < length xs → slice_index_or xs i false ≡ slice_index_or ys i false) → xs ≡ ys
-same_at [] [] count each = refl
-same_at [] (y ∷ ys) count each = absurd (omega (arith, count))
-same_at (x ∷ xs) [] count each = absurd (omega (arith, count))
-same_at (x ∷ xs) (y ∷ ys) count each =
-    let rest = same_at xs ys (omega (arith, count)) (λ i below. each (suc i) (omega (arith, below))) in
-    λ k. each zero (omega arith) k ∷ rest k
-
-mapped_at : (f : ℕ × Receipt → Bool) (xs : List (ℕ × Receipt)) (i : ℕ) (d : ℕ × Receipt) → i < length xs → slice_index_or (map f xs) i false ≡ f (slice_index_or xs i d)
-mapped_at f [] i d below = absurd (omega (arith, below))
-mapped_at f (x ∷ xs) zero d below = refl
-mapped_at f (x ∷ xs) (suc i) d below = mapped_at f xs i d (omega (arith, below))
-
-length_mapped : (f : ℕ × Receipt → Bool) (xs : List (ℕ × Receipt)) → length (map f xs) ≡ length xs
-length_mapped f [] = refl
-length_mapped f (x ∷ xs) = omega (arith, length_mapped f xs)
 
 -- after a pass is prepared
 pub named_prepared : (done : List Step) (pass : ℕ) (picks : List ℕ) (old new : AheadView) → old.named ≡ named_by done old.receipts → IsPrepared pass picks old new
@@ -60,15 +38,16 @@ named_prepared done pass picks old new was p =
     let after = named_by (done ++ clear_steps pass picks) in
     let d : ℕ × Receipt = (0, record { page = 0; tag = 0 }) in
     let tag = λ (ss : List Step) (x : ℕ × Receipt). is_tag ss x.1.page x.1.tag in
-    let before : length old.named ≡ length old.receipts = ap length was ∙ length_mapped (tag done) old.receipts in
-    let count : length new.named ≡ length (after old.receipts) = p.count ∙ (before ∙ sym (length_mapped (tag (done ++ clear_steps pass picks)) old.receipts)) in
-    same_at new.named (after old.receipts) count (λ i below.
+    let before : length old.named ≡ length old.receipts = ap length was ∙ length-map old.receipts (tag done) in
+    let count : length new.named ≡ length (after old.receipts) = p.count ∙ (before ∙ sym (length-map old.receipts (tag (done ++ clear_steps pass picks)))) in
+    same_lists new.named (after old.receipts) count (λ i b below.
     let here : i < length old.receipts = omega (arith, below, p.count, before) in
     let x = slice_index_or old.receipts i d in
-    p.each i d here
+    get_or_default new.named i b false below
+    ∙ (p.each i d here
     ∙ (ap (λ l. slice_index_or l i false || is_named pass picks x.1) was
-    ∙ (ap (λ b. b || is_named pass picks x.1) (mapped_at (tag done) old.receipts i d here)
-    ∙ (sym (tag_more done pass picks x.1.page x.1.tag) ∙ sym (mapped_at (tag (done ++ clear_steps pass picks)) old.receipts i d here)))))
+    ∙ (ap (λ b. b || is_named pass picks x.1) (get_or-map (tag done) old.receipts i d false here)
+    ∙ (sym (tag_more done pass picks x.1.page x.1.tag) ∙ sym (get_or-map (tag (done ++ clear_steps pass picks)) old.receipts i d b here))))))
     ∙ ap after (sym p.receipts)
 
 -- before all entries
@@ -97,43 +76,16 @@ open_clears rs pass (p ∷ picks) = open_clears rs pass picks
 
 -- ---- which entry a line says
 
-pub said_prepare : (v : LiveValue) (j : JournalValue) (r : ReplayingView) (line : List ℕ) → IsReplayOf v j r → r.monitor.core.phase ≡ Idle
-    → said_entry (replay v j) (replay v j).state.core.phase line
-    ≡ (if same_word line (spelled_prepare (r.monitor.core.ticks + 1) r.drawn) then Some (Prepare (r.monitor.core.ticks + 1) r.drawn, []) else None)
-said_prepare v j r line h idle =
-    let same : (replay v j).state.core ≡ r.monitor.core = sym h.stands.same in
-    ap (λ ph. said_entry (replay v j) ph line) (ap (λ (c : Core). c.phase) same ∙ idle)
-    ∙ (ap (λ (c : Core). if same_word line (spelled_prepare (c.ticks + 1) (replay v j).drawn) then Some (Prepare (c.ticks + 1) (replay v j).drawn, []) else None) same
-    ∙ ap (λ d. if same_word line (spelled_prepare (r.monitor.core.ticks + 1) d) then Some (Prepare (r.monitor.core.ticks + 1) d, []) else None) (sym h.drawn))
+-- a replay that shows a core and a number of words
+abbrev shown : Replayed → Core → ℕ → Replayed
+shown r core drawn = record r { state = record r.state { core = core }; drawn = drawn }
 
--- the entry of a check with these results, if there are some
-abbrev pub checked : ℕ → Option (List Bool) → Option (Entry × List Bool)
-checked pass bits = option_map (λ bits. (Check pass, bits)) bits
-
-pub said_check : (v : LiveValue) (j : JournalValue) (r : ReplayingView) (line : List ℕ) → IsReplayOf v j r → r.monitor.core.phase ≡ Armed
-    → said_entry (replay v j) (replay v j).state.core.phase line
-    ≡ checked (r.monitor.core.ticks + 1) (option_and_then (n_bits_of (row_count r.monitor.core)) (after_prefix (check_front (r.monitor.core.ticks + 1)) line))
-said_check v j r line h armed =
+-- what is said after a journal is said by what its monitor shows
+pub said_in : (v : LiveValue) (j : JournalValue) (r : ReplayingView) (line : List ℕ) (ph : Phase) → IsReplayOf v j r → r.monitor.core.phase ≡ ph
+    → said_entry (replay v j) (replay v j).state.core.phase line ≡ said_entry (shown (replay v j) r.monitor.core r.drawn) ph line
+said_in v j r line ph h is =
     let same : (replay v j).state.core ≡ r.monitor.core = sym h.stands.same in
-    ap (λ ph. said_entry (replay v j) ph line) (ap (λ (c : Core). c.phase) same ∙ armed)
-    ∙ ap (λ (c : Core). checked (c.ticks + 1) (option_and_then (n_bits_of (row_count c)) (after_prefix (check_front (c.ticks + 1)) line))) same
-
-pub said_void : (v : LiveValue) (j : JournalValue) (r : ReplayingView) (line : List ℕ) → IsReplayOf v j r → r.monitor.core.phase ≡ VoidPhase
-    → said_entry (replay v j) (replay v j).state.core.phase line
-    ≡ (if same_word line (spelled_void (r.monitor.core.ticks + 1)) then Some (Void (r.monitor.core.ticks + 1), []) else None)
-said_void v j r line h void =
-    let same : (replay v j).state.core ≡ r.monitor.core = sym h.stands.same in
-    ap (λ ph. said_entry (replay v j) ph line) (ap (λ (c : Core). c.phase) same ∙ void)
-    ∙ ap (λ (c : Core). if same_word line (spelled_void (c.ticks + 1)) then Some (Void (c.ticks + 1), []) else None) same
-
-pub said_aggregate : (v : LiveValue) (j : JournalValue) (r : ReplayingView) (line : List ℕ) → IsReplayOf v j r → r.monitor.core.phase ≡ Due
-    → said_entry (replay v j) (replay v j).state.core.phase line
-    ≡ (if same_word line (spelled_aggregate r.monitor.core.ticks r.drawn) then Some (Aggregate r.monitor.core.ticks r.drawn, []) else None)
-said_aggregate v j r line h due =
-    let same : (replay v j).state.core ≡ r.monitor.core = sym h.stands.same in
-    ap (λ ph. said_entry (replay v j) ph line) (ap (λ (c : Core). c.phase) same ∙ due)
-    ∙ (ap (λ (c : Core). if same_word line (spelled_aggregate c.ticks (replay v j).drawn) then Some (Aggregate c.ticks (replay v j).drawn, []) else None) same
-    ∙ ap (λ d. if same_word line (spelled_aggregate r.monitor.core.ticks d) then Some (Aggregate r.monitor.core.ticks d, []) else None) (sym h.drawn))
+    (λ i. said_entry (shown (replay v j) (same i) (sym h.drawn i)) (same i).phase line) ∙ ap (λ p. said_entry (shown (replay v j) r.monitor.core r.drawn) p line) is
 
 -- ---- what stands after an entry
 
@@ -153,9 +105,9 @@ counts_more j e old new was passes loads hits = record {
 }
 
 pub prepare_stands : (v : LiveValue) (j : JournalValue) (pass position : ℕ) (old new : Fold) → FoldStands v j old → IsCarried v v j (Prepare pass position) [] new.replay → SameRest [] old new
-    → IsPrepared pass new.replay.monitor.core.picks old.ahead new.ahead → new.replay.monitor.core.phase ≡ Armed → pass ≡ new.replay.monitor.core.ticks + 1 → new.unreceived ≡ old.unreceived
+    → IsPrepared pass new.replay.monitor.core.picks old.ahead new.ahead → new.unreceived ≡ old.unreceived
     → new.counts.passes ≡ old.counts.passes + 1 → new.counts.loads ≡ old.counts.loads → new.counts.hits ≡ old.counts.hits → FoldStands v (longer j (Prepare pass position) []) new
-prepare_stands v j pass position old new h carried_is rest prepared armed number unseen passes loads hits =
+prepare_stands v j pass position old new h carried_is rest prepared unseen passes loads hits =
     let e = Prepare pass position in
     let picks : (carried v (replay_with v j []) e).state.core.picks ≡ new.replay.monitor.core.picks =
     ap (λ (r : Replayed). r.state.core.picks) (sym carried_is.is) ∙ ap (λ (c : Core). c.picks) (sym carried_is.replays.stands.same)
@@ -168,7 +120,6 @@ prepare_stands v j pass position old new h carried_is rest prepared armed number
       space = rest.space ∙ h.space;
       next = rest.next ∙ h.next;
       named = named_prepared (steps v j) pass new.replay.monitor.core.picks old.ahead new.ahead h.named prepared ∙ ap (λ ss. named_by ss new.ahead.receipts) (sym done);
-      pass = prepared.pass ∙ (number ∙ ap (λ ph. last_pass ph new.replay.monitor.core.ticks) (sym armed));
       open_is =
           let clears = open_clears rs pass new.replay.monitor.core.picks in
           let all = counted_append (λ s. not (has_receipt rs s)) (steps v j) (clear_steps pass new.replay.monitor.core.picks) in
@@ -177,37 +128,35 @@ prepare_stands v j pass position old new h carried_is rest prepared armed number
       kept = kept_more v j e [] old.kept new.kept (λ n. refl) h.kept rest.kept;
     }
 
--- an entry without steps
-quiet_stands : (v : LiveValue) (j : JournalValue) (e : Entry) (old new : Fold) → FoldStands v j old → IsCarried v v j e [] new.replay → steps v (longer j e []) ≡ steps v j ++ [] → prepares e ≡ 0 → ((n : ℕ) → call_of v n e ≡ []) → SameRest [] old new → new.ahead ≡ old.ahead
-    → last_pass new.replay.monitor.core.phase new.replay.monitor.core.ticks ≡ last_pass old.replay.monitor.core.phase old.replay.monitor.core.ticks → new.unreceived ≡ old.unreceived → new.counts ≡ old.counts → FoldStands v (longer j e []) new
-quiet_stands v j e old new h carried_is steps_are none no_call rest ahead pass unseen counts =
-    let done : steps v (longer j e []) ≡ steps v j = steps_are ∙ append-nil (steps v j) in
+-- an entry without steps, in a script that may have got its call
+pub entry_stands : (v w : LiveValue) (j : JournalValue) (e : Entry) (old new : Fold) → FoldStands v j old → IsCarried v w j e [] new.replay → w.setup ≡ v.setup → steps w (longer j e []) ≡ steps v j ++ [] → prepares e ≡ 0
+    → new.version ≡ old.version → new.next ≡ map (λ calls. length calls) w.controllers → new.ahead ≡ old.ahead → new.replay.monitor.core.space ≡ old.replay.monitor.core.space → new.unreceived ≡ old.unreceived → new.counts ≡ old.counts
+    → IsKept w (longer j e []) new.kept → FoldStands w (longer j e []) new
+entry_stands v w j e old new h carried_is setup steps_are none version next ahead space unseen counts kept =
+    let done : steps w (longer j e []) ≡ steps v j = steps_are ∙ append-nil (steps v j) in
     let same : old.counts.passes ≡ old.counts.passes + prepares e = omega (arith, none) in
     record {
       replay = carried_is.replays;
-      version = rest.version ∙ h.version;
-      space = rest.space ∙ h.space;
-      next = rest.next ∙ h.next;
+      version = version ∙ (h.version ∙ ap (λ (s : SetupValue). s.version) (sym setup));
+      space = space ∙ (h.space ∙ ap (λ (s : SetupValue). s.space) (sym setup));
+      next = next;
       named = ap (λ (a : AheadView). a.named) ahead ∙ (h.named ∙ (ap (λ (a : AheadView). named_by (steps v j) a.receipts) (sym ahead) ∙ ap (λ ss. named_by ss new.ahead.receipts) (sym done)));
-      pass = ap (λ (a : AheadView). a.pass) ahead ∙ (h.pass ∙ sym pass);
       open_is = unseen ∙ (h.open_is ∙ (ap (λ (a : AheadView). open_hits (receipts_of a.receipts) (steps v j)) (sym ahead) ∙ ap (open_hits (receipts_of new.ahead.receipts)) (sym done)));
       counts = counts_more j e old.counts new.counts h.counts (ap (λ (c : Lawful). c.passes) counts ∙ same) (ap (λ (c : Lawful). c.loads) counts) (ap (λ (c : Lawful). c.hits) counts);
-      kept = kept_more v j e [] old.kept new.kept no_call h.kept rest.kept;
+      kept = kept;
     }
 
-pub void_stands : (v : LiveValue) (j : JournalValue) (pass : ℕ) (old new : Fold) → FoldStands v j old → IsCarried v v j (Void pass) [] new.replay → SameRest [] old new → new.ahead ≡ old.ahead
-    → last_pass new.replay.monitor.core.phase new.replay.monitor.core.ticks ≡ last_pass old.replay.monitor.core.phase old.replay.monitor.core.ticks → new.unreceived ≡ old.unreceived → new.counts ≡ old.counts → FoldStands v (longer j (Void pass) []) new
-void_stands v j pass old new h c rest ahead last unseen counts = quiet_stands v j (Void pass) old new h c c.steps_are refl (λ n. refl) rest ahead last unseen counts
-
-pub aggregate_stands : (v : LiveValue) (j : JournalValue) (tick position : ℕ) (old new : Fold) → FoldStands v j old → IsCarried v v j (Aggregate tick position) [] new.replay → SameRest [] old new → new.ahead ≡ old.ahead
-    → last_pass new.replay.monitor.core.phase new.replay.monitor.core.ticks ≡ last_pass old.replay.monitor.core.phase old.replay.monitor.core.ticks → new.unreceived ≡ old.unreceived → new.counts ≡ old.counts → FoldStands v (longer j (Aggregate tick position) []) new
-aggregate_stands v j tick position old new h c rest ahead last unseen counts = quiet_stands v j (Aggregate tick position) old new h c c.steps_are refl (λ n. refl) rest ahead last unseen counts
+-- one that is no call, too
+pub quiet_stands : (v : LiveValue) (j : JournalValue) (e : Entry) (old new : Fold) → FoldStands v j old → IsCarried v v j e [] new.replay → steps v (longer j e []) ≡ steps v j ++ [] → prepares e ≡ 0 → ((n : ℕ) → call_of v n e ≡ []) → SameRest [] old new → new.ahead ≡ old.ahead
+    → new.unreceived ≡ old.unreceived → new.counts ≡ old.counts → FoldStands v (longer j e []) new
+quiet_stands v j e old new h c steps_are none no_call rest ahead unseen counts =
+    entry_stands v v j e old new h c refl steps_are none rest.version (rest.next ∙ h.next) ahead rest.space unseen counts (kept_more v j e [] old.kept new.kept no_call h.kept rest.kept)
 
 pub check_stands : (v : LiveValue) (j : JournalValue) (pass : ℕ) (bits : List Bool) (old new : Fold) → FoldStands v j old → IsCarried v v j (Check pass) bits new.replay → SameRest bits old new → new.ahead ≡ old.ahead
-    → length bits ≡ row_count old.replay.monitor.core → last_pass new.replay.monitor.core.phase new.replay.monitor.core.ticks ≡ last_pass old.replay.monitor.core.phase old.replay.monitor.core.ticks
+    → length bits ≡ row_count old.replay.monitor.core
     → new.unreceived ≡ old.unreceived + open_hits (receipts_of old.ahead.receipts) (load_steps pass old.replay.monitor.core.picks bits)
     → new.counts.passes ≡ old.counts.passes → new.counts.loads ≡ old.counts.loads + length bits → new.counts.hits ≡ old.counts.hits + count_by (λ bit. bit) bits → FoldStands v (longer j (Check pass) bits) new
-check_stands v j pass bits old new h carried_is rest ahead size last unseen passes loads hits =
+check_stands v j pass bits old new h carried_is rest ahead size unseen passes loads hits =
     let e = Check pass in
     let r = replay_with v j bits in
     let same : r.state.core ≡ old.replay.monitor.core = sym h.replay.stands.same in
@@ -228,7 +177,6 @@ check_stands v j pass bits old new h carried_is rest ahead size last unseen pass
           ∙ (h.named
           ∙ (sym (named_loaded (steps v j) pass picks bits old.ahead.receipts)
           ∙ (ap (λ ss. named_by ss old.ahead.receipts) (sym done) ∙ ap (named_by (steps v (longer j e bits))) (sym receipts))));
-      pass = ap (λ (a : AheadView). a.pass) ahead ∙ (h.pass ∙ sym last);
       open_is =
           unseen
           ∙ (ap (λ n. n + open_hits rs (load_steps pass picks bits)) h.open_is
@@ -244,66 +192,35 @@ check_stands v j pass bits old new h carried_is rest ahead size last unseen pass
 
 -- ---- the numbers stay within the lines
 
-next_more : (xs : List ℕ) (lines : ℕ) → AllByRecursion (λ n. n ≤ lines) xs → AllByRecursion (λ n. n ≤ lines + 1) xs
-next_more [] lines all = all
-next_more (x ∷ xs) lines all = (omega (arith, all.0), next_more xs lines all.1)
+pub all_later : (ns : List ℕ) (n m : ℕ) → n ≤ m → AllByRecursion (λ k. k ≤ n) ns → AllByRecursion (λ k. k ≤ m) ns
+all_later [] n m later all = tt
+all_later (k ∷ ns) n m later all = (omega (arith, later, all.0), all_later ns n m later all.1)
 
--- after an entry that prepares no pass and has no results
-pub quiet_goes : (old : Fold) (replay : ReplayingView) (kept : Kept) → GainsEntry old.kept kept [] [] → replay.monitor.core.ticks ≤ old.replay.monitor.core.ticks + 1 → replay.drawn ≤ old.replay.drawn + 2 ^ 33
-    → replay.monitor.core.space ≡ old.replay.monitor.core.space → GoesOn old (record old { replay = replay; kept = kept })
-quiet_goes old replay kept gains ticks drawn space = record {
-  within = λ lines h. record {
-    ticks = omega (arith, ticks, h.ticks);
-    drawn = omega (arith, drawn, h.drawn);
-    next = next_more old.next lines h.next;
-    passes = omega (arith, h.passes);
-    loads = omega (arith, h.loads);
-    hits = h.hits;
-    open_few = h.open_few;
-    pages = h.pages ∙ ap pages_of (sym space);
-    entries = omega (arith, gains.entries, h.entries);
-  };
-  receipts = refl;
-  space = space;
-  keeping = gains.keeping;
+-- one line more, with the numbers of calls that are within it
+pub within_more : (old new : Fold) (lines : ℕ) → IsWithin old lines → AllByRecursion (λ n. n ≤ lines + 1) new.next → new.ahead.pages ≡ old.ahead.pages → new.replay.monitor.core.space ≡ old.replay.monitor.core.space
+    → new.replay.monitor.core.ticks ≤ old.replay.monitor.core.ticks + 1 → new.replay.drawn ≤ old.replay.drawn + 2 ^ 33 → new.kept.entries ≡ old.kept.entries + 1
+    → new.counts.passes ≤ old.counts.passes + 1 → new.counts.loads ≤ old.counts.loads + 2 ^ 32 → new.counts.hits + old.counts.loads ≤ old.counts.hits + new.counts.loads
+    → new.unreceived + old.counts.loads ≤ old.unreceived + new.counts.loads → IsWithin new (lines + 1)
+within_more old new lines h next pages space ticks drawn entries passes loads hits unseen = record {
+  ticks = omega (arith, ticks, h.ticks);
+  drawn = omega (arith, drawn, h.drawn);
+  next = next;
+  passes = omega (arith, passes, h.passes);
+  loads = omega (arith, loads, h.loads);
+  hits = omega (arith, hits, h.hits);
+  open_few = omega (arith, unseen, h.open_few);
+  pages = pages ∙ (h.pages ∙ ap pages_of (sym space));
+  entries = omega (arith, entries, h.entries);
 }
 
--- after a pass is prepared
-pub prepare_goes : (pass : ℕ) (picks : List ℕ) (old new : Fold) → SameRest [] old new → IsPrepared pass picks old.ahead new.ahead → new.replay.monitor.core.ticks ≡ old.replay.monitor.core.ticks
-    → new.replay.drawn ≤ old.replay.drawn + 2 ^ 33 → new.counts.passes ≡ old.counts.passes + 1 → new.counts.loads ≡ old.counts.loads → new.counts.hits ≡ old.counts.hits → new.unreceived ≡ old.unreceived → GoesOn old new
-prepare_goes pass picks old new rest prepared ticks drawn passes loads hits unseen = record {
-  within = λ lines h. record {
-    ticks = omega (arith, ticks, h.ticks);
-    drawn = omega (arith, drawn, h.drawn);
-    next = subst (AllByRecursion (λ n. n ≤ lines + 1)) (sym rest.next) (next_more old.next lines h.next);
-    passes = omega (arith, passes, h.passes);
-    loads = omega (arith, loads, h.loads);
-    hits = omega (arith, hits, loads, h.hits);
-    open_few = omega (arith, unseen, loads, h.open_few);
-    pages = prepared.pages ∙ (h.pages ∙ ap pages_of (sym rest.space));
-    entries = omega (arith, rest.kept.entries, h.entries);
-  };
-  receipts = rest.receipts;
-  space = rest.space;
-  keeping = rest.kept.keeping;
-}
-
--- after a check of this many rows
-pub check_goes : (rows : ℕ) (bits : List Bool) (old new : Fold) → SameRest bits old new → new.ahead ≡ old.ahead → rows < 2 ^ 32 → new.replay.monitor.core.ticks ≡ old.replay.monitor.core.ticks + 1 → new.replay.drawn ≡ old.replay.drawn
-    → new.counts.passes ≡ old.counts.passes → new.counts.loads ≡ old.counts.loads + rows → (hits : ℕ) → hits ≤ rows → new.counts.hits ≡ old.counts.hits + hits
-    → (unseen : ℕ) → unseen ≤ rows → new.unreceived ≡ old.unreceived + unseen → GoesOn old new
-check_goes rows bits old new rest ahead few ticks drawn passes loads hits some hits_are unseen most unseen_are = record {
-  within = λ lines h. record {
-    ticks = omega (arith, ticks, h.ticks);
-    drawn = omega (arith, drawn, h.drawn);
-    next = subst (AllByRecursion (λ n. n ≤ lines + 1)) (sym rest.next) (next_more old.next lines h.next);
-    passes = omega (arith, passes, h.passes);
-    loads = omega (arith, loads, few, h.loads);
-    hits = omega (arith, hits_are, some, loads, h.hits);
-    open_few = omega (arith, unseen_are, most, loads, h.open_few);
-    pages = ap (λ (a : AheadView). a.pages) ahead ∙ (h.pages ∙ ap pages_of (sym rest.space));
-    entries = omega (arith, rest.kept.entries, h.entries);
-  };
+-- after an entry that is no call
+pub entry_goes : (bits : List Bool) (old new : Fold) → SameRest bits old new → new.ahead.pages ≡ old.ahead.pages → new.replay.monitor.core.ticks ≤ old.replay.monitor.core.ticks + 1 → new.replay.drawn ≤ old.replay.drawn + 2 ^ 33
+    → new.counts.passes ≤ old.counts.passes + 1 → new.counts.loads ≤ old.counts.loads + 2 ^ 32 → new.counts.hits + old.counts.loads ≤ old.counts.hits + new.counts.loads
+    → new.unreceived + old.counts.loads ≤ old.unreceived + new.counts.loads → GoesOn old new
+entry_goes bits old new rest pages ticks drawn passes loads hits unseen = record {
+  within = λ lines h.
+      let next : AllByRecursion (λ n. n ≤ lines + 1) new.next = subst (AllByRecursion (λ n. n ≤ lines + 1)) (sym rest.next) (all_later old.next lines (lines + 1) (omega arith) h.next) in
+      within_more old new lines h next pages rest.space ticks drawn rest.kept.entries passes loads hits unseen;
   receipts = rest.receipts;
   space = rest.space;
   keeping = rest.kept.keeping;

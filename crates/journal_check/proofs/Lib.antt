@@ -9,7 +9,7 @@ mod SeenAfter
 mod SeenTaken
 mod SeenFront
 mod SeenColumns
-mod TagOrder
+mod TagChains
 mod AheadTables
 mod LastSeen
 mod EntriesTaken

@@ -1,7 +1,7 @@
 -- An entry that is carried out leads on through the states that are left.
-use Rattle.std.proofs.Common.{◌≡◌, ℕ, ◌+◌, ◌-◌, ◌^◌, ◌≤◌, ◌<◌, ◌==◌, Bool, true, false, List, [], ◌∷◌, ◌++◌, drop, get_or, length, map, take, Some, None, refl, sym, ap, ◌∙◌, subst, length-append, take-append-drop, arith}
+use Rattle.std.proofs.Common.{◌≡◌, ℕ, ◌+◌, ◌-◌, ◌^◌, ◌≤◌, ◌<◌, ◌==◌, Bool, true, false, List, [], ◌∷◌, ◌++◌, drop, get_or, length, map, Some, None, refl, sym, ap, ◌∙◌, subst, length-append, arith}
 use Rattle.std.proofs.lemmas.Bool.Decides.{nat_tests}
-use Rattle.std.proofs.lemmas.List.{drop-drop, drop-map, drop_all, drop_more, length-map}
+use Rattle.std.proofs.lemmas.List.{drop-map, drop_all, drop_more, length-map}
 use Rattle.std.specs.Prelude.{◌≢◌, Option, nat_lt}
 use Rattle.live_commit.specs.declared.phase.Phase.{Phase}
 use Rattle.live_commit.specs.declared.phase.Phase.TheVariants.{Idle, Armed, Checking, Clearing, Due, Void as VoidPhase}
@@ -18,16 +18,16 @@ use Rattle.run_journal.specs.Growth.{longer, replay_with}
 use Rattle.journal_check.specs.Kept.{call_of, calls_from, is_call_at, kept_call}
 use Rattle.run_journal.specs.Phases.{IsFree}
 use Rattle.run_journal.specs.Replay.{EntriesFit, EntryFits, JournalValue, Replayed, call_answer, call_at, carried, replay, replay_from}
-use Rattle.journal_check.specs.Replayer.{IsOnWay, KeepsWay, Leads, ReachesLast, ReachesNext, ReplayerView, replayer_of, replaying_of}
+use Rattle.journal_check.specs.Replayer.{IsOnWay, KeepsWay, Leads, ReachesLast, ReachesNext, ReplayerView, replaying_of}
 use Rattle.run_journal.specs.Replaying.{Carries, CarriesKnown, IsCarried, ReplayingView}
 use Rattle.run_journal.proofs.Lemmas.{carried-more, with_more}
 
 -- ---- one entry
 
--- what an entry takes: its results are those in front, and of the calls that are left its own is no longer there
-pub record Takes (v : LiveValue) (e : Entry) (bits : List Bool) (old new : ReplayerView) : Type 0 where
+-- what an entry takes: its results are those in front, and of the calls that are left the first ones go
+pub record Takes (bits : List Bool) (calls : ℕ) (old new : ReplayerView) : Type 0 where
   pub bits_are : old.bits ≡ bits ++ new.bits
-  pub calls_are : (calls : List (ℕ × Option CallValue)) → old.calls ≡ call_of v old.done e ++ calls → new.calls ≡ calls
+  pub calls_are : new.calls ≡ drop calls old.calls
   pub done : new.done ≡ old.done + 1
   pub left : old.left ≡ new.left + 1
   pub ticks : new.monitor.core.ticks ≤ old.monitor.core.ticks + 1
@@ -40,9 +40,9 @@ after_more v j e bits more new out =
     ∙ (ap (with_more more) (sym out.is) ∙ ap (λ l. record (replay v (longer j e bits)) { bits = l ++ more }) out.replays.journal.none_left)
 
 -- what is left then
-pub after_entry : (states : List State) (last : State) (old new : ReplayerView) (h : Leads states last old) (e : Entry) (es : List Entry) (bits : List Bool) → h.entries ≡ e ∷ es → IsCarried h.live h.live h.journal e bits (replaying_of new)
-    → Takes h.live e bits old new → Leads (aggregated_from h.live (carried h.live (replay_with h.live h.journal old.bits) e) es) last new
-after_entry states last old new h e es bits is out takes =
+pub after_entry : (states : List State) (last : State) (old new : ReplayerView) (h : Leads states last old) (e : Entry) (es : List Entry) (bits : List Bool) (n : ℕ) → h.entries ≡ e ∷ es → IsCarried h.live h.live h.journal e bits (replaying_of new)
+    → Takes bits n old new → ((calls : List (ℕ × Option CallValue)) → drop n (call_of h.live old.done e ++ calls) ≡ calls) → Leads (aggregated_from h.live (carried h.live (replay_with h.live h.journal old.bits) e) es) last new
+after_entry states last old new h e es bits n is out takes own =
     let v = h.live in
     let j = h.journal in
     let at = replay_with v j old.bits in
@@ -56,7 +56,7 @@ after_entry states last old new h e es bits is out takes =
       fit = subst (λ r. EntriesFit v r es) now (subst (EntriesFit v at) is h.fit).1;
       done = omega (arith, takes.done, h.done, length-append j.entries (e ∷ []));
       left = omega (arith, takes.left, h.left, count);
-      calls = takes.calls_are (calls_from v (old.done + 1) es) (h.calls ∙ ap (calls_from v old.done) is) ∙ ap (λ n. calls_from v n es) (sym takes.done);
+      calls = takes.calls_are ∙ ap (drop n) (h.calls ∙ ap (calls_from v old.done) is) ∙ own (calls_from v (old.done + 1) es) ∙ ap (λ m. calls_from v m es) (sym takes.done);
       through = ap (λ r. aggregated_from v r es) now;
       to = h.to ∙ (ap (λ l. (replay_from v at l).state) is ∙ ap (λ r. (replay_from v r es).state) now);
       few = omega (arith, takes.done, takes.left, h.few);
@@ -67,25 +67,25 @@ after_entry states last old new h e es bits is out takes =
 -- ---- which entry is the next
 
 -- the one that a phase wants, where it is no call
-abbrev due : Replayed → Phase → Option Entry
-due r Idle = Some (Prepare (r.state.core.ticks + 1) r.drawn)
-due r Armed = Some (Check (r.state.core.ticks + 1))
-due r VoidPhase = Some (Void (r.state.core.ticks + 1))
-due r Due = Some (Aggregate r.state.core.ticks r.drawn)
-due r _ = None
+abbrev pub due : ℕ → ℕ → Phase → Option Entry
+due ticks drawn Idle = Some (Prepare (ticks + 1) drawn)
+due ticks drawn Armed = Some (Check (ticks + 1))
+due ticks drawn VoidPhase = Some (Void (ticks + 1))
+due ticks drawn Due = Some (Aggregate ticks drawn)
+due ticks drawn _ = None
 
-is_due : (v : LiveValue) (r : Replayed) (e : Entry) → EntryFits v r e → call_of v 0 e ≡ [] → due r r.state.core.phase ≡ Some e
-is_due v r (Prepare pass pos) fits no_call = ap (due r) fits.0 ∙ λ i. Some (Prepare (sym fits.1 i) (sym fits.2 i))
-is_due v r (Check pass) fits no_call = ap (due r) fits.0 ∙ λ i. Some (Check (sym fits.1 i))
-is_due v r (Void pass) fits no_call = ap (due r) fits.0 ∙ λ i. Some (Void (sym fits.1 i))
-is_due v r (Aggregate tick pos) fits no_call = ap (due r) fits.0 ∙ λ i. Some (Aggregate (sym fits.1 i) (sym fits.2 i))
-is_due v r (Call c n answer) fits no_call = absurd cc
+is_due : (v : LiveValue) (r : Replayed) (n : ℕ) (e : Entry) → EntryFits v r e → call_of v n e ≡ [] → due r.state.core.ticks r.drawn r.state.core.phase ≡ Some e
+is_due v r n (Prepare pass pos) fits none = ap (due r.state.core.ticks r.drawn) fits.0 ∙ λ i. Some (Prepare (sym fits.1 i) (sym fits.2 i))
+is_due v r n (Check pass) fits none = ap (due r.state.core.ticks r.drawn) fits.0 ∙ λ i. Some (Check (sym fits.1 i))
+is_due v r n (Void pass) fits none = ap (due r.state.core.ticks r.drawn) fits.0 ∙ λ i. Some (Void (sym fits.1 i))
+is_due v r n (Aggregate tick pos) fits none = ap (due r.state.core.ticks r.drawn) fits.0 ∙ λ i. Some (Aggregate (sym fits.1 i) (sym fits.2 i))
+is_due v r n (Call c k answer) fits none = absurd cc
 
 -- the index of a call is its own
 own_index : (n : ℕ) → (n == n) ≡ true
 own_index n = grind (arith, nat_tests)
 
-is_no_call : (v : LiveValue) (n : ℕ) (e : Entry) (es : List Entry) → is_call_at n (calls_from v n (e ∷ es)) ≡ false → call_of v 0 e ≡ []
+is_no_call : (v : LiveValue) (n : ℕ) (e : Entry) (es : List Entry) → is_call_at n (calls_from v n (e ∷ es)) ≡ false → call_of v n e ≡ []
 is_no_call v n (Prepare pass pos) es none = refl
 is_no_call v n (Check pass) es none = refl
 is_no_call v n (Void pass) es none = refl
@@ -121,158 +121,92 @@ next_call v r n (Void pass ∷ es) fit test = absurd (no_clash v n es test)
 next_call v r n (Aggregate tick pos ∷ es) fit test = absurd (no_clash v n es test)
 next_call v r n (Call c i answer ∷ es) fit test = record { controller = c; index = i; answer = answer; rest = es; is = refl; fits = fit.0 }
 
--- the next entry is the one that the phase wants
-abbrev entry_or : Entry → Option Entry → Entry
-entry_or d None = d
-entry_or d (Some e) = e
+-- the next entry is no call, but the one that is wanted
+record NextDue (v : LiveValue) (want : Option Entry) (n : ℕ) (entries : List Entry) : Type 0 where
+  entry : Entry
+  rest : List Entry
+  is : entries ≡ entry ∷ rest
+  wanted : want ≡ Some entry
+  no_call : call_of v n entry ≡ []
 
-next_due : (v : LiveValue) (r : Replayed) (n : ℕ) (es : List Entry) (e : Entry) → 0 < length es → EntriesFit v r es → is_call_at n (calls_from v n es) ≡ false → due r r.state.core.phase ≡ Some e → (rest : List Entry) × (es ≡ e ∷ rest)
-next_due v r n [] e some fit none wants = absurd (omega (arith, some))
-next_due v r n (x ∷ es) e some fit none wants = (es, ap (λ y. y ∷ es) (ap (entry_or x) (sym (is_due v r x fit.0 (is_no_call v n x es none)) ∙ wants)))
+next_due : (v : LiveValue) (r : Replayed) (want : Option Entry) (n : ℕ) (es : List Entry) → due r.state.core.ticks r.drawn r.state.core.phase ≡ want → 0 < length es → EntriesFit v r es → is_call_at n (calls_from v n es) ≡ false
+    → NextDue v want n es
+next_due v r want n [] wants some fit none = absurd (omega (arith, some))
+next_due v r want n (x ∷ es) wants some fit none =
+    let no_call = is_no_call v n x es none in
+    record { entry = x; rest = es; is = refl; wanted = sym wants ∙ is_due v r n x fit.0 no_call; no_call = no_call }
 
--- what a phase of the monitor wants, where the next entry is no call
+-- some entry is next, which is no call
 pub record IsNext (old : ReplayerView) : Type 0 where
   pub some : 0 < old.left
   pub no_call : is_call_at old.done old.calls ≡ false
 
--- some entry is next, which is no call
-pub next_entry : (states : List State) (last : State) (old : ReplayerView) (e : Entry) (h : Leads states last old) → IsNext old
-    → due (replay_with h.live h.journal old.bits) (replay_with h.live h.journal old.bits).state.core.phase ≡ Some e → (rest : List Entry) × (h.entries ≡ e ∷ rest)
+-- the entry that the phase of a monitor wants
+abbrev pub due_now : ReplayerView → Option Entry
+due_now r = due r.monitor.core.ticks r.drawn r.monitor.core.phase
+
+first_due : (states : List State) (last : State) (old : ReplayerView) (h : Leads states last old) → IsNext old → NextDue h.live (due_now old) old.done h.entries
+first_due states last old h next =
+    let at = replay_with h.live h.journal old.bits in
+    let same : at.state.core ≡ old.monitor.core = sym h.carried_out.stands.same in
+    next_due h.live at (due_now old) old.done h.entries (λ i. due (same i).ticks (sym h.carried_out.drawn i) (same i).phase) (omega (arith, next.some, h.left)) h.fit (ap (is_call_at old.done) (sym h.calls) ∙ next.no_call)
+
+next_entry : (states : List State) (last : State) (old : ReplayerView) (e : Entry) (h : Leads states last old) → IsNext old → due_now old ≡ Some e → (rest : List Entry) × (h.entries ≡ e ∷ rest) × (call_of h.live old.done e ≡ [])
 next_entry states last old e h next wants =
-    next_due h.live (replay_with h.live h.journal old.bits) old.done h.entries e (omega (arith, next.some, h.left)) h.fit (ap (is_call_at old.done) (sym h.calls) ∙ next.no_call) wants
+    let first = first_due states last old h next in
+    let own : first.entry ≡ e = let is : Some first.entry ≡ Some e = sym first.wanted ∙ wants in cc in
+    (first.rest, first.is ∙ ap (λ x. x ∷ first.rest) own, ap (call_of h.live old.done) (sym own) ∙ first.no_call)
 
 -- ---- entries that are no calls
 
--- what all of them take
-pub record TakesBits (bits : List Bool) (old new : ReplayerView) : Type 0 where
-  pub bits_are : old.bits ≡ bits ++ new.bits
-  pub calls : new.calls ≡ old.calls
-  pub done : new.done ≡ old.done + 1
-  pub left : old.left ≡ new.left + 1
-  pub ticks : new.monitor.core.ticks ≤ old.monitor.core.ticks + 1
-  pub drawn : new.drawn ≤ old.drawn + 2 ^ 33
+carries_on : (old new : ReplayerView) (e : Entry) (bits : List Bool) → due_now old ≡ Some e → Carries (replaying_of old) (replaying_of new) e bits → Takes bits 0 old new → IsNext old → (states : List State) (last : State) (h : Leads states last old)
+    → (rest : List Entry) × (states ≡ aggregated_from h.live (replay_with h.live h.journal old.bits) (e ∷ rest)) × Leads (aggregated_from h.live (carried h.live (replay_with h.live h.journal old.bits) e) rest) last new
+carries_on old new e bits wants makes takes next states last h =
+    let is = next_entry states last old e h next wants in (
+      is.0,
+      h.through ∙ ap (aggregated_from h.live (replay_with h.live h.journal old.bits)) is.1,
+      after_entry states last old new h e is.0 bits 0 is.1 (makes h.live h.journal h.carried_out) takes (λ calls. ap (λ l. l ++ calls) is.2),
+    )
 
-takes_bits : (v : LiveValue) (e : Entry) (bits : List Bool) (old new : ReplayerView) → call_of v old.done e ≡ [] → TakesBits bits old new → Takes v e bits old new
-takes_bits v e bits old new none t = record {
-  bits_are = t.bits_are;
-  calls_are = λ calls is. t.calls ∙ (is ∙ ap (λ l. l ++ calls) none);
-  done = t.done;
-  left = t.left;
-  ticks = t.ticks;
-  drawn = t.drawn;
-}
+-- after one that is no aggregation
+pub keeps_way : (old new : ReplayerView) (e : Entry) (bits : List Bool) → due_now old ≡ Some e → Carries (replaying_of old) (replaying_of new) e bits → Takes bits 0 old new → IsNext old
+    → ((v : LiveValue) (r : Replayed) (es : List Entry) → aggregated_from v r (e ∷ es) ≡ aggregated_from v (carried v r e) es) → KeepsWay old new
+keeps_way old new e bits wants makes takes next plain states last h =
+    let on = carries_on old new e bits wants makes takes next states last h in
+    subst (λ ss. Leads ss last new) (sym (on.1 ∙ plain h.live (replay_with h.live h.journal old.bits) on.0)) on.2
 
--- the state that the monitor stands for
-module _ (states : List State) (last : State) (old : ReplayerView) (h : Leads states last old) where
-  abbrev pub at : Replayed
-  at = replay_with h.live h.journal old.bits
-
-  same : at.state.core ≡ old.monitor.core
-  same = sym h.carried_out.stands.same
-
-  pub phase_is : (ph : Phase) → old.monitor.core.phase ≡ ph → due at at.state.core.phase ≡ due at ph
-  phase_is ph is = ap (due at) (ap (λ (c : Core). c.phase) same ∙ is)
-
-  pub wants_prepare : old.monitor.core.phase ≡ Idle → due at at.state.core.phase ≡ Some (Prepare (old.monitor.core.ticks + 1) old.drawn)
-  wants_prepare idle = phase_is Idle idle ∙ λ i. Some (Prepare ((same i).ticks + 1) (sym h.carried_out.drawn i))
-
-  pub wants_check : old.monitor.core.phase ≡ Armed → due at at.state.core.phase ≡ Some (Check (old.monitor.core.ticks + 1))
-  wants_check armed = phase_is Armed armed ∙ λ i. Some (Check ((same i).ticks + 1))
-
-  pub wants_void : old.monitor.core.phase ≡ VoidPhase → due at at.state.core.phase ≡ Some (Void (old.monitor.core.ticks + 1))
-  wants_void void = phase_is VoidPhase void ∙ λ i. Some (Void ((same i).ticks + 1))
-
-  pub wants_aggregate : old.monitor.core.phase ≡ Due → due at at.state.core.phase ≡ Some (Aggregate old.monitor.core.ticks old.drawn)
-  wants_aggregate is = phase_is Due is ∙ λ i. Some (Aggregate (same i).ticks (sym h.carried_out.drawn i))
-
-pub prepares : (old new : ReplayerView) → Carries (replaying_of old) (replaying_of new) (Prepare (old.monitor.core.ticks + 1) old.drawn) [] → TakesBits [] old new → IsNext old → old.monitor.core.phase ≡ Idle → KeepsWay old new
-prepares old new makes takes next idle states last h =
-    let e = Prepare (old.monitor.core.ticks + 1) old.drawn in
-    let is = next_entry states last old e h next (wants_prepare states last old h idle) in
-    let after = after_entry states last old new h e is.0 [] is.1 (makes h.live h.journal h.carried_out) (takes_bits h.live e [] old new refl takes) in
-    subst (λ ss. Leads ss last new) (sym (h.through ∙ ap (aggregated_from h.live (replay_with h.live h.journal old.bits)) is.1)) after
-
-pub checks : (old new : ReplayerView) (bits : List Bool) → Carries (replaying_of old) (replaying_of new) (Check (old.monitor.core.ticks + 1)) bits → TakesBits bits old new → IsNext old → old.monitor.core.phase ≡ Armed → KeepsWay old new
-checks old new bits makes takes next armed states last h =
-    let e = Check (old.monitor.core.ticks + 1) in
-    let is = next_entry states last old e h next (wants_check states last old h armed) in
-    let after = after_entry states last old new h e is.0 bits is.1 (makes h.live h.journal h.carried_out) (takes_bits h.live e bits old new refl takes) in
-    subst (λ ss. Leads ss last new) (sym (h.through ∙ ap (aggregated_from h.live (replay_with h.live h.journal old.bits)) is.1)) after
-
-pub voids : (old new : ReplayerView) → Carries (replaying_of old) (replaying_of new) (Void (old.monitor.core.ticks + 1)) [] → TakesBits [] old new → IsNext old → old.monitor.core.phase ≡ VoidPhase → KeepsWay old new
-voids old new makes takes next void states last h =
-    let e = Void (old.monitor.core.ticks + 1) in
-    let is = next_entry states last old e h next (wants_void states last old h void) in
-    let after = after_entry states last old new h e is.0 [] is.1 (makes h.live h.journal h.carried_out) (takes_bits h.live e [] old new refl takes) in
-    subst (λ ss. Leads ss last new) (sym (h.through ∙ ap (aggregated_from h.live (replay_with h.live h.journal old.bits)) is.1)) after
-
-pub aggregates : (old new : ReplayerView) → Carries (replaying_of old) (replaying_of new) (Aggregate old.monitor.core.ticks old.drawn) [] → TakesBits [] old new → new.monitor.core.ticks ≡ old.monitor.core.ticks → IsNext old → old.monitor.core.phase ≡ Due
+pub aggregates : (old new : ReplayerView) → Carries (replaying_of old) (replaying_of new) (Aggregate old.monitor.core.ticks old.drawn) [] → Takes [] 0 old new → new.monitor.core.ticks ≡ old.monitor.core.ticks → IsNext old → old.monitor.core.phase ≡ Due
     → (states : List State) (last : State) → Leads states last old → ReachesNext old.monitor.core.ticks states last new
 aggregates old new makes takes ticks next is_due_now states last h =
     let v = h.live in
     let at = replay_with v h.journal old.bits in
     let e = Aggregate old.monitor.core.ticks old.drawn in
-    let is = next_entry states last old e h next (wants_aggregate states last old h is_due_now) in
+    let on = carries_on old new e [] (ap (due old.monitor.core.ticks old.drawn) is_due_now) makes takes next states last h in
     let out = makes v h.journal h.carried_out in
     let now : (carried v at e).state ≡ (replay v (longer h.journal e [])).state = ap (λ bs. (carried v (replay_with v h.journal bs) e).state) takes.bits_are ∙ ap (λ (r : Replayed). r.state) (after_more v h.journal e [] new.bits (replaying_of new) out) in
     record {
       state = (carried v at e).state;
-      rest = aggregated_from v (carried v at e) is.0;
-      first = h.through ∙ ap (aggregated_from v at) is.1;
+      rest = aggregated_from v (carried v at e) on.0;
+      first = on.1;
       tick_is = sym ticks ∙ (ap (λ (c : Core). c.ticks) out.replays.stands.same ∙ ap (λ (s : State). s.core.ticks) (sym now));
       stands = subst (Stands new.monitor) (sym now) out.replays.stands;
       reached = subst Reached (sym now) out.replays.reached;
-      leads = after_entry states last old new h e is.0 [] is.1 out (takes_bits v e [] old new refl takes);
+      leads = on.2;
     }
 
 -- in no other phase is an entry next that is no call
-other_phase : (v : LiveValue) (r : Replayed) (n : ℕ) (es : List Entry) → 0 < length es → EntriesFit v r es → is_call_at n (calls_from v n es) ≡ false → due r r.state.core.phase ≡ None → ⊥
-other_phase v r n [] some fit none wants = absurd (omega (arith, some))
-other_phase v r n (x ∷ es) some fit none wants = absurd (let clash : None ≡ Some x = sym wants ∙ is_due v r x fit.0 (is_no_call v n x es none) in cc)
-
 pub phase_wants : (old : ReplayerView) → IsOnWay old → IsNext old → old.monitor.core.phase ≢ Idle → old.monitor.core.phase ≢ Armed → old.monitor.core.phase ≢ VoidPhase → old.monitor.core.phase ≡ Due
-phase_wants old way next not_idle not_armed not_void = by old.monitor.core.phase refl
+phase_wants old way next not_idle not_armed not_void = let first = first_due way.0 way.1 old way.2 next in by old.monitor.core.phase first.entry refl first.wanted
   where
-    other : (ph : Phase) → old.monitor.core.phase ≡ ph → due (at way.0 way.1 old way.2) ph ≡ None → ⊥
-    other ph is none =
-        let h = way.2 in
-        other_phase h.live (at way.0 way.1 old h) old.done h.entries (omega (arith, next.some, h.left)) h.fit (ap (is_call_at old.done) (sym h.calls) ∙ next.no_call) (phase_is way.0 way.1 old h ph is ∙ none)
-
-    by : (ph : Phase) → old.monitor.core.phase ≡ ph → old.monitor.core.phase ≡ Due
-    by Idle is = absurd (not_idle is)
-    by Armed is = absurd (not_armed is)
-    by VoidPhase is = absurd (not_void is)
-    by Due is = is
-    by (Clearing k) is = absurd (other (Clearing k) is refl)
-    by (Checking k) is = absurd (other (Checking k) is refl)
+    by : (ph : Phase) (e : Entry) → old.monitor.core.phase ≡ ph → due old.monitor.core.ticks old.drawn ph ≡ Some e → old.monitor.core.phase ≡ Due
+    by Idle e is some = absurd (not_idle is)
+    by Armed e is some = absurd (not_armed is)
+    by VoidPhase e is some = absurd (not_void is)
+    by Due e is some = is
+    by (Clearing k) e is some = absurd cc
+    by (Checking k) e is some = absurd cc
 
 -- ---- what is kept, of which some is done
-
--- after an entry that takes no results and is no call
-pub takes_none : (r new : ReplayingView) (bits : List Bool) (calls : List KeptCall) (entries done bits_done calls_done : ℕ) → IsNext (replayer_of r bits calls entries done bits_done calls_done)
-    → new.monitor.core.ticks ≤ r.monitor.core.ticks + 1 → new.drawn ≤ r.drawn + 2 ^ 33
-    → TakesBits [] (replayer_of r bits calls entries done bits_done calls_done) (replayer_of new bits calls entries (done + 1) bits_done calls_done)
-takes_none r new bits calls entries done bits_done calls_done next ticks drawn = record {
-  bits_are = refl;
-  calls = refl;
-  done = refl;
-  left = omega (arith, next.some);
-  ticks = ticks;
-  drawn = drawn;
-}
-
--- after one that takes this many
-pub takes_some : (r new : ReplayingView) (bits : List Bool) (calls : List KeptCall) (entries done bits_done calls_done count : ℕ) → IsNext (replayer_of r bits calls entries done bits_done calls_done)
-    → new.monitor.core.ticks ≤ r.monitor.core.ticks + 1 → new.drawn ≤ r.drawn + 2 ^ 33
-    → TakesBits (take count (drop bits_done bits)) (replayer_of r bits calls entries done bits_done calls_done) (replayer_of new bits calls entries (done + 1) (bits_done + count) calls_done)
-takes_some r new bits calls entries done bits_done calls_done count next ticks drawn = record {
-  bits_are = sym (take-append-drop count (drop bits_done bits)) ∙ ap (λ l. take count (drop bits_done bits) ++ l) (drop-drop count bits_done bits);
-  calls = refl;
-  done = refl;
-  left = omega (arith, next.some);
-  ticks = ticks;
-  drawn = drawn;
-}
 
 -- the call that is the first of those left
 pub first_call : (calls : List KeptCall) (index : ℕ) (k : KeptCall) → index < length calls → k ≡ get_or calls index k → drop index (map kept_call calls) ≡ kept_call k ∷ drop (index + 1) (map kept_call calls)
@@ -301,31 +235,11 @@ pub results_are_left : (old : ReplayerView) → IsOnWay old → IsNext old → o
 results_are_left old way next armed =
     let h = way.2 in
     let e = Check (old.monitor.core.ticks + 1) in
-    let is = next_entry way.0 way.1 old e h next (wants_check way.0 way.1 old h armed) in
+    let is = next_entry way.0 way.1 old e h next (ap (due old.monitor.core.ticks old.drawn) armed) in
     let fits = subst (EntriesFit h.live (replay_with h.live h.journal old.bits)) is.1 h.fit in
     omega (arith, fits.0.2, ap row_count h.carried_out.stands.same)
 
 -- ---- calls
-
--- what a call takes
-pub record TakesCall (old new : ReplayerView) : Type 0 where
-  pub bits_are : new.bits ≡ old.bits
-  pub calls : new.calls ≡ drop 1 old.calls
-  pub done : new.done ≡ old.done + 1
-  pub left : old.left ≡ new.left + 1
-  pub ticks : new.monitor.core.ticks ≤ old.monitor.core.ticks + 1
-  pub drawn : new.drawn ≤ old.drawn + 2 ^ 33
-
-pub takes_call : (r new : ReplayingView) (bits : List Bool) (calls : List KeptCall) (entries done bits_done calls_done : ℕ) → 0 < entries - done → new.monitor.core.ticks ≤ r.monitor.core.ticks + 1 → new.drawn ≤ r.drawn + 2 ^ 33
-    → TakesCall (replayer_of r bits calls entries done bits_done calls_done) (replayer_of new bits calls entries (done + 1) bits_done (calls_done + 1))
-takes_call r new bits calls entries done bits_done calls_done some ticks drawn = record {
-  bits_are = refl;
-  calls = sym (drop-drop 1 calls_done (map kept_call calls));
-  done = refl;
-  left = omega (arith, some);
-  ticks = ticks;
-  drawn = drawn;
-}
 
 -- the call that is next is the one that is kept first
 abbrev call_or : Option CallValue → List (ℕ × Option CallValue) → Option CallValue
@@ -337,7 +251,7 @@ value_or d None = d
 value_or d (Some x) = x
 
 pub calls_on : (old new : ReplayerView) (call : CallValue) (answer : CallAnswer) (place : ℕ) (rest : List (ℕ × Option CallValue)) → old.calls ≡ (place, Some call) ∷ rest → is_call_at old.done old.calls ≡ true
-    → CarriesKnown (replaying_of old) (replaying_of new) call answer → answer ≡ call_answer call old.monitor.core → TakesCall old new → KeepsWay old new
+    → CarriesKnown (replaying_of old) (replaying_of new) call answer → answer ≡ call_answer call old.monitor.core → Takes [] 1 old new → KeepsWay old new
 calls_on old new call answer place rest first here makes told takes states last h =
     let v = h.live in
     let at = replay_with v h.journal old.bits in
@@ -350,17 +264,7 @@ calls_on old new call answer place rest first here makes told takes states last 
     let other : is.fits.1.0 ≡ call = ap (λ (o : Option CallValue). value_or call o) (sym is.fits.1.1 ∙ own) in
     let same_answer : is.answer ≡ answer = is.fits.1.2 ∙ (ap (λ (x : CallValue). call_answer x at.state.core) other ∙ (ap (call_answer call) (sym h.carried_out.stands.same) ∙ sym told)) in
     let out = subst (λ a. IsCarried v v h.journal (Call c i a) [] (replaying_of new)) (sym same_answer) (makes v h.journal c i h.carried_out own) in
-    let t : Takes v e [] old new =
-    record {
-      bits_are = sym takes.bits_are;
-      calls_are = λ calls are. takes.calls ∙ ap (drop 1) are;
-      done = takes.done;
-      left = takes.left;
-      ticks = takes.ticks;
-      drawn = takes.drawn;
-    }
-    in
-    let after = after_entry states last old new h e is.rest [] is.is out t in
+    let after = after_entry states last old new h e is.rest [] 1 is.is out takes (λ calls. refl) in
     subst (λ ss. Leads ss last new) (sym (h.through ∙ ap (aggregated_from v at) is.is)) after
 
 -- the lock may be free where a call is next

@@ -1,10 +1,10 @@
 -- Hits without a receipt, counted load by load.
 use Rattle.std.proofs.Common.{◌≡◌, ℕ, zero, suc, ◌+◌, ◌*◌, ◌≤◌, ◌<◌, ◌==◌, ◌&&◌, ◌||◌, Bool, true, false, not, List, [], ◌∷◌, length, take, refl, sym, ap, ◌∙◌, arith}
 use Rattle.std.specs.Prelude.{cond, slice_index, slice_index_or}
-use Rattle.std.specs.List.{count_by, list_any}
+use Rattle.std.specs.List.{list_any}
 use Rattle.std.proofs.lemmas.Bool.Decides.{nat_tests}
 use Rattle.std.proofs.lemmas.List.{take_all}
-use Rattle.std.proofs.lemmas.List.Sums.{count_by-le-length, sum_by-append}
+use Rattle.std.proofs.lemmas.List.Sums.{sum_by-append}
 use Rattle.page_words.specs.Clears.{pass_of}
 use Rattle.page_words.specs.declared.view.Entry.TheVariants.{Load}
 use Rattle.run_journal.specs.declared.entry.Receipt.{Receipt}
@@ -95,6 +95,3 @@ open_few rs pass [] bits = omega arith
 open_few rs pass (p ∷ picks) [] = omega arith
 open_few rs pass (p ∷ picks) (b ∷ bits) =
     omega (arith, open_step rs pass p b picks bits, at_most_one (not (has_receipt rs (Load p (2 * pass + cond b 1 0)))), open_few rs pass picks bits)
-
-pub few_true : (bits : List Bool) → count_by (λ bit. bit) bits ≤ length bits
-few_true bits = count_by-le-length (λ bit. bit) bits

@@ -62,11 +62,10 @@ abbrev pub is_named : ℕ → List ℕ → Receipt → Bool
 is_named pass picks r = (pass == r.tag) && list_any (λ p. p == r.page) picks
 
 -- Receipts ahead, each with its worker; whether each names a pass that has cleared its page so far (a receipt with tag 0 names
--- none, and is always right); the number of the pass that was prepared last; and the number of pages.
+-- none, and is always right); and the number of pages.
 pub record AheadView : Type 0 where
   pub receipts : List (ℕ × Receipt)
   pub named : List Bool
-  pub pass : ℕ
   pub pages : ℕ
 
 -- whether each receipt names no pass
@@ -83,15 +82,9 @@ pub record IsPrepared (now : ℕ) (picks : List ℕ) (before after : AheadView) 
   pub each : (i : ℕ) (d : ℕ × Receipt) → i < length before.receipts
       → slice_index_or after.named i false ≡ (slice_index_or before.named i false || is_named now picks (slice_index_or before.receipts i d).1)
   pub count : length after.named ≡ length before.named
-  pub pass : after.pass ≡ now
   pub pages : after.pages ≡ before.pages
 
 -- ---- which is refused
-
--- the receipts of each worker after more receipts
-abbrev pub seen_after : List (List Receipt) → List (ℕ × Receipt) → List (List Receipt)
-seen_after all [] = all
-seen_after all (x ∷ xs) = seen_after (with_receipt all x.0 x.1) xs
 
 -- the index of the first receipt that may not be seen after those before it
 abbrev pub first_refused : List Step → List (List Receipt) → List (ℕ × Receipt) → Option ℕ
@@ -139,15 +132,11 @@ AreNamedEarly receipts named =
     (i : ℕ) (d : ℕ × Receipt) → i < length receipts → slice_index_or named i false ≡ true → (slice_index_or receipts i d).1.tag ≤ MAX_BYTES + 1
 
 -- receipts with what is kept of them
-pub record IsAhead (receipts : List (ℕ × Receipt)) (named picked received : List Bool) (pass pages : ℕ) : Type 0 where
+pub record IsAhead (receipts : List (ℕ × Receipt)) (named marked : List Bool) : Type 0 where
   pub count : length named ≡ length receipts
-  pub within : All (λ x. x.1.page < pages) receipts
+  pub within : All (λ x. x.1.page < length marked) receipts
   pub tags : AreNamedEarly receipts named
-  pub table : length picked ≡ pages
-  pub unpicked : IsUnset picked
-  pub marks : length received ≡ pages
-  pub early : pass ≤ MAX_BYTES + 1
-  pub shows : ShowsTag pass receipts received
+  pub unmarked : IsUnset marked
 
 -- a worker and the number of a pass that are kept in one number
 abbrev pub last_in : ℕ → ℕ × ℕ

@@ -3,7 +3,6 @@ use Rattle.std.specs.Prelude.{◌≡◌, ℕ, ◌+◌, ◌*◌, ◌^◌, ◌≤�
 use Rattle.std.specs.List.{AllByRecursion, count_by}
 use Rattle.damon_types.specs.Space.{pages_of}
 use Rattle.page_words.specs.declared.view.Entry.{Entry as Step}
-use Rattle.damon_core.specs.Stands.{last_pass}
 use Rattle.damon_control.specs.Live.{LiveValue}
 use Rattle.run_journal.specs.declared.entry.Entry.{Entry}
 use Rattle.run_journal.specs.declared.entry.Receipt.{Receipt}
@@ -33,7 +32,6 @@ pub record FoldStands (v : LiveValue) (j : JournalValue) (f : Fold) : Type 0 whe
   pub space : f.replay.monitor.core.space ≡ v.setup.space
   pub next : f.next ≡ map (λ calls. length calls) v.controllers
   pub named : f.ahead.named ≡ named_by (steps v j) f.ahead.receipts
-  pub pass : f.ahead.pass ≡ last_pass f.replay.monitor.core.phase f.replay.monitor.core.ticks
   pub open_is : f.unreceived ≡ open_hits (receipts_of f.ahead.receipts) (steps v j)
   pub counts : CountsOf j f.counts
   pub kept : IsKept v j f.kept

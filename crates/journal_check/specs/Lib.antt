@@ -1,7 +1,7 @@
 pub mod Ahead
 pub mod SeenFront
 pub mod SeenColumns
-pub mod TagOrder
+pub mod TagChains
 pub mod LinesLeft
 pub mod EndsOfText
 pub mod Folding

@@ -8,7 +8,7 @@ pub(crate) mod by_tag;
 pub(crate) mod front;
 /// Receipts with their workers, in columns.
 pub(crate) mod list;
-/// Sets of pages and names of receipts, which passes change.
+/// Names of receipts, and marks of pages, which passes set.
 pub(crate) mod named;
 /// Which receipts may follow one another.
 pub(crate) mod order;

@@ -1,20 +1,15 @@
 ghost use Rattle.script_lines.specs.Words.{same_word};
-ghost use Rattle.std.specs.Prelude.{◌≡◌, ◌+◌, ◌<◌, ◌^◌, ◌&&◌, IfOk, OnOk, length, not, true};
-ghost use Rattle.std.specs.List.{count_by, list_any};
-ghost use Rattle.damon_types.specs.Space.{pages_of};
+ghost use Rattle.std.specs.Prelude.{◌≡◌, ◌+◌, ◌<◌, ◌^◌, IfOk, OnOk, length, true};
+ghost use Rattle.std.specs.List.{count_by};
 ghost use Rattle.live_commit.specs.declared.phase.Phase.TheVariants.{Idle, Armed, Due, Void as VoidPhase};
-ghost use Rattle.damon_core.specs.State.{row_count};
 ghost use Rattle.damon_control.specs.JournalHead.{head_said};
 ghost use Rattle.damon_control.specs.Live.{LiveValue};
-ghost use Rattle.journal_check.specs.Ahead.{receipts_of};
-ghost use Rattle.journal_check.specs.Folding.{AreAhead, FoldStands, GoesOn, HasRead, HasTaken, IsWithin, open_hits};
+ghost use Rattle.journal_check.specs.Folding.{AreAhead, FoldStands, GoesOn, HasRead, HasTaken, IsWithin};
 ghost use Rattle.journal_check.specs.LinesLeft.{FaultIs, IsShort, said_left};
 ghost use Rattle.journal_text.specs.Place.{InEntries, uncalled};
 ghost use Rattle.run_journal.specs.Replay.{JournalValue};
 ghost use Rattle.run_journal.specs.Room.{nothing_said};
-ghost use Rattle.journal_text.specs.SeenLine.{is_receipt};
 ghost use Rattle.journal_text.specs.Spelled.{spelled_aggregate, spelled_prepare, spelled_void};
-ghost use Rattle.page_words.specs.PassSteps.{load_steps};
 
 use crate::entries::kept::{Keeping, Kept};
 use crate::entries::lines::{check_digits, is_number_line, is_pair_line, read_bits};
@@ -166,7 +161,10 @@ impl Fold {
         let Some(bits) = read_bits(alloc, digits, rows as usize)? else {
             return Ok(false);
         };
-        self.unreceived += self.hits_without_receipt(&bits);
+        let open = self
+            .ahead
+            .open_hits(pass, self.replay.monitor().picks(), &bits);
+        self.unreceived += open;
         self.counts.loads += u64::from(rows);
         self.counts.hits += hits_in(&bits);
         self.kept.add_check(&bits)?;
@@ -223,31 +221,6 @@ impl Fold {
     {
         let tick = self.replay.monitor().ticks();
         is_pair_line(line, b"aggregate ", tick, b" at ", self.replay.drawn())
-    }
-
-    // How many of these results of the picks are hits without a receipt.
-    fn hits_without_receipt(&self, bits: &[bool]) -> u64
-        requires armed { self.now.replay.monitor.core.phase ≡ Armed }
-        requires each { length bits.now ≡ row_count self.now.replay.monitor.core }
-        requires pages { self.now.ahead.pages ≡ pages_of self.now.replay.monitor.core.space }
-        ensures { result ≡ open_hits (receipts_of self.now.ahead.receipts)
-            (load_steps self.now.ahead.pass self.now.replay.monitor.core.picks bits.now) }
-    {
-        let picks = self.replay.monitor().picks();
-        let mut open = 0;
-        for k in 0..picks.len() {
-            open += u64::from(self.is_open(picks.page(k), bits[k as usize]));
-        }
-        open
-    }
-
-    // Whether the result of the pick of a page is a hit without a receipt.
-    fn is_open(&self, page: u32, hit: bool) -> bool
-        requires { page < self.now.ahead.pages }
-        ensures { result ≡ (hit && not (list_any (is_receipt page self.now.ahead.pass)
-            (receipts_of self.now.ahead.receipts))) }
-    {
-        hit && !self.ahead.has(page)
     }
 }
 

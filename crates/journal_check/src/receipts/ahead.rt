@@ -1,16 +1,16 @@
 // Receipts that are read ahead of the entries of a journal.
 ghost use Rattle.std.specs.Prelude.{◌≡◌, ◌+◌, ◌≤◌, ◌<◌, [], All, IfOk, length, List};
-ghost use Rattle.std.specs.List.{list_any};
 ghost use Rattle.damon_types.specs.Space.{pages_of};
 ghost use Rattle.damon_control.specs.declared.reader.TheConstants.{MAX_BYTES};
 ghost use Rattle.line_text.specs.Parts.{parts};
 ghost use Rattle.page_words.specs.declared.view.Entry.{Entry as Step};
 ghost use Rattle.journal_check.specs.Ahead.{IsPrepared, after_receipts, first_refused, named_by, named_by_none, receipts_of, seen_ahead};
-ghost use Rattle.journal_text.specs.SeenLine.{is_receipt};
+ghost use Rattle.journal_check.specs.Folding.{open_hits};
+ghost use Rattle.page_words.specs.PassSteps.{load_steps};
 
 use crate::receipts::by_tag::SeenByTag;
 use crate::receipts::list::SeenList;
-use crate::receipts::named::{name_due, named_by_none, received_at_first, show_pass};
+use crate::receipts::named::{hits_without_mark, name_due, named_by_none, set_pages};
 use crate::receipts::order::first_wrong;
 use crate::receipts::read::read_receipts;
 use damon_types::Space;
@@ -27,15 +27,12 @@ pub(crate) struct Ahead {
     seen: SeenByTag,
     // The receipts that a pass has named, by their index.
     named: BitSet,
-    // Scratch space of `prepare`: empty before and after each call.
-    picked: BitSet,
-    // The pages that receipts have with the number of the pass as their tag.
-    received: BitSet,
-    pass: u64,
-    pages: u32,
+    // Scratch space for pages: empty before and after each call.
+    marked: BitSet,
 }
 
 impl Model for Ahead {
+    ghost use Rattle.std.specs.Prelude.{length};
     ghost use Rattle.journal_check.specs.Ahead.{AheadView, IsAhead};
 
     ghost Value = { AheadView };
@@ -43,12 +40,10 @@ impl Model for Ahead {
     ghost view = { λ a. record {
       receipts = a.seen;
       named = a.named;
-      pass = a.pass;
-      pages = a.pages;
+      pages = length a.marked;
     } };
 
-    ghost invariant = { λ a. IsAhead a.seen a.named a.picked a.received
-        a.pass a.pages };
+    ghost invariant = { λ a. IsAhead a.seen a.named a.marked };
 }
 
 impl Ahead {
@@ -59,7 +54,6 @@ impl Ahead {
         ensures receipts { IfOk result (λ a. a.receipts
             ≡ seen_ahead space.now (after_receipts (parts 10 text.now))) }
         ensures named { IfOk result (λ a. a.named ≡ named_by_none a.receipts) }
-        ensures pass { IfOk result (λ a. a.pass ≡ 0) }
         ensures pages { IfOk result (λ a. a.pages ≡ pages_of space.now) }
     {
         let receipts = read_receipts(alloc, space, text)?;
@@ -74,21 +68,16 @@ impl Ahead {
         ensures { IfOk result (λ a. a ≡ record {
           receipts = receipts;
           named = named_by_none receipts;
-          pass = 0;
           pages = pages;
         }) }
     {
         let named = named_by_none(alloc, &receipts)?;
         let seen = SeenByTag::of(alloc, receipts)?;
-        let picked = BitSet::none(alloc, pages)?;
-        let received = received_at_first(alloc, &seen, pages)?;
+        let marked = BitSet::none(alloc, pages)?;
         Ok(Ahead {
             seen,
             named,
-            picked,
-            received,
-            pass: 0,
-            pages,
+            marked,
         })
     }
 
@@ -105,18 +94,22 @@ impl Ahead {
         requires picks { All (λ p. p < self.old.pages) picks.now.pages }
         ensures { IsPrepared pass picks.now.pages self.old self.new }
     {
-        show_pass(&mut self.received, &self.seen, self.pass, pass);
-        name_due(&mut self.named, &mut self.picked, &self.seen, pass, picks);
-        self.pass = pass;
+        name_due(&mut self.named, &mut self.marked, &self.seen, pass, picks);
     }
 
-    // Whether a receipt has this page with the last prepared pass as its tag.
-    pub(crate) fn has(&self, page: u32) -> bool
-        requires { page < self.now.pages }
-        ensures { result ≡ list_any (is_receipt page self.now.pass)
-            (receipts_of self.now.receipts) }
+    // How many of these results of the picks of a pass are hits without a receipt. Takes no memory.
+    pub(crate) fn open_hits(&mut self, pass: u64, picks: &Picks, bits: &[bool]) -> u64
+        requires early { pass ≤ MAX_BYTES + 1 }
+        requires picks { All (λ p. p < self.old.pages) picks.now.pages }
+        requires each { length bits.now ≡ length picks.now.pages }
+        ensures hits { result ≡ open_hits (receipts_of self.old.receipts)
+            (load_steps pass picks.now.pages bits.now) }
+        ensures same { self.new ≡ self.old }
     {
-        self.received.has(page)
+        set_pages(&mut self.marked, &self.seen, pass, true);
+        let open = hits_without_mark(&self.marked, picks, bits);
+        set_pages(&mut self.marked, &self.seen, pass, false);
+        open
     }
 
     // The index of the first receipt that may not be seen after those before it. Takes memory by
@@ -129,13 +122,10 @@ impl Ahead {
         let Ahead {
             seen,
             named,
-            picked,
-            received,
-            pages,
-            ..
+            marked,
         } = self;
-        drop(picked);
-        drop(received);
+        let pages = marked.len();
+        drop(marked);
         let index = first_wrong(alloc, &seen.into_list(), &named, pages)?;
         Ok(index)
     }

@@ -40,7 +40,6 @@ returns c =
       next = refl;
       ahead = refl;
       space = c.call-answer.ensures.space;
-      pass = c.call-answer.ensures.pass;
       open_is = refl;
       counts = refl;
       kept = c.in_ok-add_call.ensures;

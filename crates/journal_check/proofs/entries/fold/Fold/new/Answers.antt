@@ -1,6 +1,5 @@
-use Rattle.std.proofs.Common.{refl, sym, ap, ◌∙◌}
+use Rattle.std.proofs.Common.{refl, ap, ◌∙◌}
 use Rattle.damon_core.specs.State.{Core}
-use Rattle.damon_core.specs.Stands.{last_pass}
 use Rattle.damon_control.specs.JournalHead.{head_said}
 use Rattle.damon_control.specs.Live.{LiveValue}
 use Rattle.journal_text.specs.Place.{uncalled}
@@ -17,7 +16,6 @@ returns-clause-begins c =
       space = ap (λ (d : Core). d.space) opening;
       next = refl;
       named = c.in_ok-ahead.ensures.named ∙ named_none c.in_ok-ahead.ahead.receipts;
-      pass = c.in_ok-ahead.ensures.pass ∙ sym (ap (λ (d : Core). last_pass d.phase d.ticks) opening);
       open_is = refl;
       counts = record { passes = refl; loads = refl; hits = refl };
       kept = c.new-2.ensures.kept;

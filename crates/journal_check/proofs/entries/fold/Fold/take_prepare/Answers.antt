@@ -1,10 +1,11 @@
-use Rattle.std.proofs.Common.{◌≡◌, ℕ, ◌+◌, [], refl, sym, ap, ◌∙◌, subst}
+use Rattle.std.proofs.Common.{◌≡◌, ℕ, ◌+◌, [], refl, sym, ap, ◌∙◌, subst, arith}
+use Rattle.live_commit.specs.declared.phase.Phase.TheVariants.{Idle}
 use Rattle.std.specs.Prelude.{if◌then◌else◌, Some, None}
 use Rattle.damon_core.specs.Stands.{MonitorView}
 use Rattle.run_journal.specs.declared.entry.Entry.TheVariants.{Prepare}
 use Rattle.journal_check.specs.declared.entries.fold.Fold.{Fold}
 use Rattle.journal_check.specs.Ahead.{IsPrepared}
-use Rattle.journal_check.proofs.EntriesTaken.{SameRest, prepare_goes, prepare_stands, said_prepare}
+use Rattle.journal_check.proofs.EntriesTaken.{SameRest, entry_goes, prepare_stands, said_in}
 use Rattle.journal_check.proofs.entries.fold.Fold.take_prepare.Goals as goal
 
 -- the pass that is prepared, and all that stays
@@ -25,16 +26,16 @@ pub returns-then-not-wants_prepare-clause-taken : goal.returns-then-not-wants_pr
 returns-then-not-wants_prepare-clause-taken c = λ v j h.
     let old : Fold = c.args.self.now in
     let e = Prepare (old.replay.monitor.core.ticks + 1) old.replay.drawn in
-    (said_prepare v j old.replay c.args.line.now h.replay c.requires.idle ∙ ap (λ b. if b then Some (e, []) else None) (sym c.wants_prepare.ensures ∙ c.if-not-wants_prepare.true), refl)
+    (said_in v j old.replay c.args.line.now Idle h.replay c.requires.idle ∙ ap (λ b. if b then Some (e, []) else None) (sym c.wants_prepare.ensures ∙ c.if-not-wants_prepare.true), refl)
 
 pub returns-clause-taken : goal.returns-clause-taken
 returns-clause-taken c = λ v j h.
     let old : Fold = c.args.self.now in
     let pass : ℕ = old.replay.monitor.core.ticks + 1 in
     let e = Prepare pass old.replay.drawn in
-    let said = said_prepare v j old.replay c.args.line.now h.replay c.requires.idle ∙ ap (λ b. if b then Some (e, []) else None) (sym c.wants_prepare.ensures ∙ c.if-not-wants_prepare.false) in
-    ((e, []), said, prepare_stands v j pass old.replay.drawn old (after c) h (c.prepare.ensures.entry v j h.replay) (same_rest c) (prepared c) c.prepare.ensures.phase (ap (λ n. n + 1) (sym c.prepare.ensures.ticks)) refl refl refl refl)
+    let said = said_in v j old.replay c.args.line.now Idle h.replay c.requires.idle ∙ ap (λ b. if b then Some (e, []) else None) (sym c.wants_prepare.ensures ∙ c.if-not-wants_prepare.false) in
+    ((e, []), said, prepare_stands v j pass old.replay.drawn old (after c) h (c.prepare.ensures.entry v j h.replay) (same_rest c) (prepared c) refl refl refl refl)
 
 pub returns-clause-goes : goal.returns-clause-goes
 returns-clause-goes c =
-    prepare_goes (c.args.self.now.replay.monitor.core.ticks + 1) c.prepare.new.self.monitor.core.picks c.args.self.now (after c) (same_rest c) (prepared c) c.prepare.ensures.ticks c.prepare.ensures.drawn refl refl refl refl
+    entry_goes [] c.args.self.now (after c) (same_rest c) c.prepare-2.ensures.pages (omega (arith, c.prepare.ensures.ticks)) c.prepare.ensures.drawn (omega arith) (omega arith) (omega arith) (omega arith)

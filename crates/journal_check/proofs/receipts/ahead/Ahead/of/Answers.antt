@@ -7,10 +7,7 @@ use Rattle.journal_check.proofs.receipts.ahead.Ahead.of.Goals as goal
 
 pub invariant_of-result : goal.invariant_of-result
 invariant_of-result c =
-    let seen = c.in_ok-seen.seen in
-    ahead_at_first seen c.in_ok-named.named c.in_ok-picked.picked c.in_ok-received.received c.args.pages
+    ahead_at_first c.in_ok-seen.seen c.in_ok-named.named c.in_ok-marked.marked c.args.pages
     (subst (λ (l : List (ℕ × Receipt)). All (λ x. x.1.page < c.args.pages) l) (sym c.in_ok-seen.ensures) c.requires.within)
     (c.in_ok-named.ensures ∙ ap named_by_none (sym c.in_ok-seen.ensures))
-    c.in_ok-picked.ensures
-    c.in_ok-received.ensures.len
-    c.in_ok-received.ensures.each
+    c.in_ok-marked.ensures
