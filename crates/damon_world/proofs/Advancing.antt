@@ -5,7 +5,7 @@ use Rattle.std.proofs.lemmas.List.{get_or-drop, length-drop, map-append, take_mo
 use Rattle.rand_core.specs.Stream.{Stream}
 use Rattle.damon_types.specs.Space.{pages_of}
 use Rattle.live_commit.specs.declared.phase.Phase.{Phase}
-use Rattle.live_commit.specs.declared.phase.Phase.TheVariants.{Idle, Clearing, Armed, Checking, Void, Due}
+use Rattle.live_commit.specs.declared.phase.Phase.TheVariants.{Clearing, Armed, Checking}
 use Rattle.sampler.specs.Loaded.{mark_of, next_picks}
 use Rattle.damon_core.specs.Note.{cleared, hit, is_touched, last_clear, word_of}
 use Rattle.damon_core.specs.State.{Core, State, row_count}
@@ -143,19 +143,12 @@ loading_by_loads from (suc n) ph rows loading index below = (omega arith, omega 
 
 hit-by_load : (ph : Phase) (s : State) (h : Bool) (p : ℕ) → hit (by_load ph h s).notes p ≡ hit s.notes p
 hit-by_load Armed s h p = refl
-hit-by_load (Checking k) s h p = refl
-hit-by_load (Clearing k) s h p = refl
-hit-by_load Idle s h p = refl
-hit-by_load Void s h p = refl
-hit-by_load Due s h p = refl
+hit-by_load _ s h p = refl
 
-core-by_load : (ph : Phase) (s : State) (h : Bool) → IsLoading ph (row_count s.core) → (by_load ph h s).core ≡ record s.core { phase = Checking (load_index ph + 1) }
+pub core-by_load : (ph : Phase) (s : State) (h : Bool) → IsLoading ph (row_count s.core) → (by_load ph h s).core ≡ record s.core { phase = Checking (load_index ph + 1) }
 core-by_load Armed s h loading = refl
 core-by_load (Checking k) s h loading = refl
-core-by_load (Clearing k) s h loading = absurd loading
-core-by_load Idle s h loading = absurd loading
-core-by_load Void s h loading = absurd loading
-core-by_load Due s h loading = absurd loading
+core-by_load _ s h loading = absurd loading
 
 -- one pick more
 next_picks_more : (picks : List ℕ) (from n : ℕ) → from + n < length picks → next_picks picks from (suc n) ≡ next_picks picks from n ++ slice_index picks (from + n) ∷ []
@@ -294,7 +287,4 @@ loads_advance {R} stream m new pages source marks from n loading index within ea
 pub loading_kept : (ph : Phase) (rows : ℕ) → IsLoading ph rows → IsInPass ph × (cleared_so_far ph rows ≡ rows)
 loading_kept Armed rows loading = (tt, refl)
 loading_kept (Checking k) rows loading = (tt, refl)
-loading_kept (Clearing k) rows loading = absurd loading
-loading_kept Idle rows loading = absurd loading
-loading_kept Void rows loading = absurd loading
-loading_kept Due rows loading = absurd loading
+loading_kept _ rows loading = absurd loading

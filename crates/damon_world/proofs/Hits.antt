@@ -3,7 +3,7 @@ use Rattle.std.proofs.Common.{◌≡◌, ℕ, zero, suc, ◌+◌, Bool, true, fa
 use Rattle.std.specs.Prelude.{◌==◌}
 use Rattle.rand_core.specs.Stream.{Stream}
 use Rattle.live_commit.specs.declared.phase.Phase.{Phase}
-use Rattle.live_commit.specs.declared.phase.Phase.TheVariants.{Idle, Clearing, Armed, Checking, Void, Due}
+use Rattle.live_commit.specs.declared.phase.Phase.TheVariants.{Armed, Checking}
 use Rattle.damon_core.specs.State.{State, row_count}
 use Rattle.damon_core.specs.Event.{ByHit, load, next_hit, observe, touch}
 use Rattle.damon_core.specs.After.{after}
@@ -20,12 +20,9 @@ by_hit-choice true s = tt
 by_hit-choice false s = refl
 
 pub by_hit-in : (ph : Phase) (s : State) (t : Stream) → ByHit s (event_in ph s t)
-by_hit-in Idle s t = tt
-by_hit-in (Clearing k) s t = tt
 by_hit-in Armed s t = refl
 by_hit-in (Checking k) s t = by_hit-choice (k == row_count s.core) s
-by_hit-in Void s t = tt
-by_hit-in Due s t = tt
+by_hit-in _ s t = tt
 
 pub steps_by_hit : (n : ℕ) (m : Moment) → AllByHit m.state (events_of_steps n m)
 steps_by_hit zero m = tt

@@ -1,7 +1,6 @@
 -- The pages of a world, and what the notes make of them.
-use Rattle.std.proofs.Common.{◌≡◌, inl, inr, ℕ, zero, suc, ◌+◌, ◌*◌, ◌/◌, ◌%◌, ◌≤◌, ◌<◌, Bool, true, false, cond, List, length, refl, sym, ap, ◌∙◌, subst, arith}
+use Rattle.std.proofs.Common.{◌≡◌, ℕ, zero, suc, ◌+◌, ◌*◌, ◌/◌, ◌%◌, ◌≤◌, ◌<◌, Bool, true, false, cond, List, length, refl, sym, ap, ◌∙◌, subst, arith}
 use Rattle.std.specs.Prelude.{◌==◌, ◌||◌, replicate, slice_index, if◌then◌else◌}
-use Rattle.std.proofs.lemmas.Bool.{cases_eq}
 use Rattle.std.proofs.lemmas.Bool.Decides.{nat_tests}
 use Rattle.damon_types.specs.Space.{pages_of}
 use Rattle.page_bits.specs.Runs.{in_run}
@@ -58,26 +57,9 @@ none_in_run page p = grind (arith, nat_tests)
 -- the marks after touches
 marks_after_touches : (s : State) (page n p : ℕ) → is_touched (run s (touches page n)).notes p ≡ (if in_run page n p then true else is_touched s.notes p)
 marks_after_touches s page zero p = sym (ap (λ b. if b then true else is_touched s.notes p) (none_in_run page p))
-marks_after_touches s page (suc n) p =
-    let rest = marks_after_touches (after s (touch page)) (page + 1) n p in
-    elim (cases_eq page p) [
-      | inl is ↦
-          let test : (page == p) ≡ true = grind (arith, nat_tests) in
-          let here : in_run page (suc n) p ≡ true = grind (arith, nat_tests) in
-          rest
-          ∙ ap (λ b. if in_run (page + 1) n p then true else b || is_touched s.notes p) test
-          ∙ always (in_run (page + 1) n p)
-          ∙ sym (ap (λ b. if b then true else is_touched s.notes p) here)
-      | inr isnt ↦
-          let test : (page == p) ≡ false = grind (arith, nat_tests) in
-          let same : in_run (page + 1) n p ≡ in_run page (suc n) p = grind (arith, nat_tests) in
-          rest
-          ∙ ap (λ b. if in_run (page + 1) n p then true else b || is_touched s.notes p) test
-          ∙ ap (λ b. if b then true else is_touched s.notes p) same
-    ] where
-      always : (b : Bool) → (if b then true else true) ≡ true
-      always true = refl
-      always false = refl
+marks_after_touches s page (suc n) p = marks_after_touches (after s (touch page)) (page + 1) n p ∙ one_more (is_touched s.notes p) where
+  one_more : (b : Bool) → (if in_run (page + 1) n p then true else (page == p || b)) ≡ (if in_run page (suc n) p then true else b)
+  one_more b = grind (arith, nat_tests)
 
 -- and the tags, which stay
 tags_after_touches : (s : State) (page n p : ℕ) → last_clear (run s (touches page n)).notes p ≡ last_clear s.notes p

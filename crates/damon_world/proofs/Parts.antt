@@ -64,23 +64,11 @@ one_run from to first last p b own other left right = grind (arith, nat_tests)
 
 -- two pages or runs in the other order
 pub swap : (a b rest : Bool) → (if a then true else (if b then true else rest)) ≡ (if b then true else (if a then true else rest))
-swap true true rest = refl
-swap true false rest = refl
-swap false true rest = refl
-swap false false rest = refl
+swap a b rest = grind arith
 
 -- a run of one page
 pub one_page : (page p : ℕ) → (page == p) ≡ in_run page 1 p
-one_page page p = elim (cases_eq page p) [
-  | inl is ↦
-      let test : (page == p) ≡ true = grind (arith, nat_tests) in
-      let inside : in_run page 1 p ≡ true = grind (arith, nat_tests) in
-      test ∙ sym inside
-  | inr isnt ↦
-      let test : (page == p) ≡ false = grind (arith, nat_tests) in
-      let outside : in_run page 1 p ≡ false = grind (arith, nat_tests) in
-      test ∙ sym outside
-]
+one_page page p = grind (arith, nat_tests)
 
 -- pages by their marks, which are stored so
 abbrev pub stored : ℕ → List ℕ → ℕ → ℕ → List ℕ → PagesView

@@ -8,7 +8,7 @@ use Rattle.live_commit.specs.declared.phase.Phase.TheVariants.{Idle, Clearing, A
 use Rattle.damon_core.specs.State.{Core, State, row_count}
 use Rattle.damon_core.specs.Event.{IsLoading, observe, load, load_index, next_hit}
 use Rattle.damon_core.specs.Several.{clears}
-use Rattle.damon_core.specs.After.{by_load, phase_cleared, phase_after_pass}
+use Rattle.damon_core.specs.After.{phase_cleared, phase_after_pass}
 use Rattle.damon_core.specs.Pass.{IsBetween}
 use Rattle.damon_core.specs.Steps.{IsPass, pass_steps}
 use Rattle.damon_world.specs.Moment.{Moment, event_in, events_of_steps, moved, next_event, stepped, stepped_times}
@@ -16,7 +16,7 @@ use Rattle.sampler.specs.Draws.{drawn}
 use Rattle.damon_world.specs.Pass.{core_after, TakesItsSteps}
 use Rattle.damon_world.proofs.Following.{events_append, events_more, stepped_more}
 use Rattle.damon_world.proofs.Stepping.{event_in-load, is_last, not_last}
-use Rattle.damon_world.proofs.Advancing.{clears_to}
+use Rattle.damon_world.proofs.Advancing.{clears_to, core-by_load}
 
 -- the phase that a pass of so many rows has reached after n steps
 abbrev pub IsAt : Phase → ℕ → ℕ → Type 0
@@ -37,11 +37,7 @@ in_phase ph s stream = record { state = record { core = record s.core { phase = 
 
 begin_at : (ph : Phase) (s : State) (stream : Stream) → ph ≡ Idle → 0 < row_count s.core → Reaches (stepped (in_phase ph s stream)) (row_count s.core) s.core.ticks 1
 begin_at Idle s stream idle some = record { at = (some, refl); same_rows = refl; same_ticks = refl }
-begin_at (Clearing k) s stream idle some = absurd (cc)
-begin_at Armed s stream idle some = absurd (cc)
-begin_at (Checking k) s stream idle some = absurd (cc)
-begin_at Void s stream idle some = absurd (cc)
-begin_at Due s stream idle some = absurd (cc)
+begin_at _ s stream idle some = absurd (cc)
 
 at_clear : (k rows n : ℕ) → k < rows → n ≡ k + 1 → IsAt (phase_cleared (k + 1) rows) rows (suc n)
 at_clear k rows n below is_n = elim (k + 1 == rows) as (λ b. (k + 1 == rows) ≡ b → IsAt (cond b Armed (Clearing (k + 1))) rows (suc n)) [
@@ -91,18 +87,14 @@ end_at (Checking k) s stream n at some last =
     subst (λ (b : Bool). Ends (moved x (cond b observe (load (next_hit x.state)))) s.core.ticks) (sym (is_last k (row_count s.core) all)) here
 end_at (Clearing k) s stream n at some last = absurd (omega (arith, at.0, at.1))
 end_at Armed s stream n at some last = absurd (omega arith)
-end_at Idle s stream n at some last = absurd at
-end_at Void s stream n at some last = absurd at
-end_at Due s stream n at some last = absurd at
+end_at _ s stream n at some last = absurd at
 
 -- a phase of a pass is no phase between passes
 under_way : (ph : Phase) (rows n : ℕ) → IsAt ph rows n → ¬ IsBetween ph
-under_way (Clearing k) rows n at = λ between. between
-under_way Armed rows n at = λ between. between
-under_way (Checking k) rows n at = λ between. between
 under_way Idle rows n at = absurd at
 under_way Void rows n at = absurd at
 under_way Due rows n at = absurd at
+under_way _ rows n at = λ between. between
 
 still_at : (m : Moment) → m.state.core.phase ≡ Idle → 0 < row_count m.state.core → (n : ℕ) → n < pass_steps (row_count m.state.core) → (core_after n m).ticks ≡ m.state.core.ticks
 still_at m idle some zero early = refl
@@ -131,14 +123,6 @@ record AreLoads (x : Moment) (n : ℕ) : Type 0 where
   each : length hits ≡ n
   are : events_of_steps n x ≡ map (λ hit. load hit) hits
 
-load_more : (ph : Phase) (s : State) (h : Bool) → IsLoading ph (row_count s.core) → (by_load ph h s).core ≡ record s.core { phase = Checking (load_index ph + 1) }
-load_more Armed s h loading = refl
-load_more (Checking k) s h loading = refl
-load_more (Clearing k) s h loading = absurd loading
-load_more Idle s h loading = absurd loading
-load_more Void s h loading = absurd loading
-load_more Due s h loading = absurd loading
-
 are_loads : (x : Moment) (n : ℕ) → (0 < n → IsLoading x.state.core.phase (row_count x.state.core)) → load_index x.state.core.phase + n ≤ row_count x.state.core → AreLoads x n
 are_loads x zero loading within = record { hits = []; each = refl; are = refl }
 are_loads x (suc n) loading within =
@@ -147,7 +131,7 @@ are_loads x (suc n) loading within =
     let h = next_hit s in
     let next : next_event s x.stream ≡ load h = event_in-load s.core.phase s x.stream fits in
     let y = moved x (load h) in
-    let core : y.state.core ≡ record s.core { phase = Checking (load_index s.core.phase + 1) } = load_more s.core.phase s h fits in
+    let core : y.state.core ≡ record s.core { phase = Checking (load_index s.core.phase + 1) } = core-by_load s.core.phase s h fits in
     let index : load_index y.state.core.phase ≡ load_index s.core.phase + 1 = ap (λ (c : Core). load_index c.phase) core in
     let rows : row_count y.state.core ≡ row_count s.core = ap row_count core in
     let still : 0 < n → IsLoading y.state.core.phase (row_count y.state.core) = λ some. subst (λ (c : Core). IsLoading c.phase (row_count c)) (sym core) (omega (arith, within, some)) in
@@ -163,25 +147,19 @@ begun_at : (ph : Phase) (rows : ℕ) → IsAt ph rows 1 → 0 < rows → ph ≡ 
 begun_at (Clearing k) rows at some = let first : k ≡ 0 = omega (arith, at.1) in ap (λ i. Clearing i) first
 begun_at Armed rows at some = absurd (omega (arith, at))
 begun_at (Checking k) rows at some = absurd (omega (arith, at.0, at.2))
-begun_at Idle rows at some = absurd at
-begun_at Void rows at some = absurd at
-begun_at Due rows at some = absurd at
+begun_at _ rows at some = absurd at
 
 armed_at : (ph : Phase) (rows : ℕ) → IsAt ph rows (rows + 1) → ph ≡ Armed
 armed_at (Clearing k) rows at = absurd (omega (arith, at.0, at.1))
 armed_at Armed rows at = refl
 armed_at (Checking k) rows at = absurd (omega (arith, at.0, at.2))
-armed_at Idle rows at = absurd at
-armed_at Void rows at = absurd at
-armed_at Due rows at = absurd at
+armed_at _ rows at = absurd at
 
 last_at : (ph : Phase) (s : State) (stream : Stream) → IsAt ph (row_count s.core) (2 * row_count s.core + 1) → 0 < row_count s.core → event_in ph s stream ≡ observe
 last_at (Checking k) s stream at some = ap (λ b. cond b observe (load (next_hit s))) (is_last k (row_count s.core) (omega (arith, at.2)))
 last_at (Clearing k) s stream at some = absurd (omega (arith, at.0, at.1))
 last_at Armed s stream at some = absurd (omega (arith, at, some))
-last_at Idle s stream at some = absurd at
-last_at Void s stream at some = absurd at
-last_at Due s stream at some = absurd at
+last_at _ s stream at some = absurd at
 
 is_pass : (m : Moment) → m.state.core.phase ≡ Idle → 0 < row_count m.state.core → IsPass (row_count m.state.core) (events_of_steps (pass_steps (row_count m.state.core)) m)
 is_pass m idle some =

@@ -5,7 +5,7 @@ use Rattle.std.proofs.lemmas.Bool.Decides.{nat_tests}
 use Rattle.rand_core.specs.Stream.{Stream}
 use Rattle.damon_types.specs.Space.{pages_of}
 use Rattle.live_commit.specs.declared.phase.Phase.{Phase}
-use Rattle.live_commit.specs.declared.phase.Phase.TheVariants.{Idle, Clearing, Armed, Checking, Void, Due}
+use Rattle.live_commit.specs.declared.phase.Phase.TheVariants.{Idle, Armed, Checking, Void, Due}
 use Rattle.damon_core.specs.Note.{word_of}
 use Rattle.damon_core.specs.State.{Core, State, row_count}
 use Rattle.damon_core.specs.Event.{Event, prepare, load, observe, aggregate, IsLoading, IsObserving, load_index, next_hit}
@@ -32,35 +32,21 @@ is_last k rows same = grind (arith, nat_tests)
 pub event_in-load : (ph : Phase) (s : State) (stream : Stream) → IsLoading ph (row_count s.core) → event_in ph s stream ≡ load (next_hit s)
 event_in-load Armed s stream fits = refl
 event_in-load (Checking k) s stream fits = ap (λ b. cond b observe (load (next_hit s))) (not_last k (row_count s.core) fits)
-event_in-load (Clearing k) s stream fits = absurd fits
-event_in-load Idle s stream fits = absurd fits
-event_in-load Void s stream fits = absurd fits
-event_in-load Due s stream fits = absurd fits
+event_in-load _ s stream fits = absurd fits
 
 -- a load or the end of a pass leaves the words of the pages
 pub word_of-by_load : (ph : Phase) (s : State) (h : Bool) (p : ℕ) → word_of (by_load ph h s).notes p ≡ word_of s.notes p
 word_of-by_load Armed s h p = refl
-word_of-by_load (Checking k) s h p = refl
-word_of-by_load (Clearing k) s h p = refl
-word_of-by_load Idle s h p = refl
-word_of-by_load Void s h p = refl
-word_of-by_load Due s h p = refl
+word_of-by_load _ s h p = refl
 
 word_of-by_observe : (ph : Phase) (s : State) (p : ℕ) → word_of (by_observe ph s).notes p ≡ word_of s.notes p
 word_of-by_observe Armed s p = refl
-word_of-by_observe (Checking k) s p = refl
-word_of-by_observe (Clearing k) s p = refl
-word_of-by_observe Idle s p = refl
-word_of-by_observe Void s p = refl
-word_of-by_observe Due s p = refl
+word_of-by_observe _ s p = refl
 
 event_in-observe : (ph : Phase) (s : State) (stream : Stream) → IsObserving ph (row_count s.core) → event_in ph s stream ≡ observe
 event_in-observe (Checking k) s stream fits = ap (λ b. cond b observe (load (next_hit s))) (is_last k (row_count s.core) fits)
 event_in-observe Void s stream fits = refl
-event_in-observe Armed s stream fits = absurd fits
-event_in-observe (Clearing k) s stream fits = absurd fits
-event_in-observe Idle s stream fits = absurd fits
-event_in-observe Due s stream fits = absurd fits
+event_in-observe _ s stream fits = absurd fits
 
 -- one step, from the event that comes next at each moment
 one_step : {R : Type 0} (stream : R → Stream) (old new : WorldView R) → ((x : Moment) → Reached x.state → StandsAt stream old x → (e : Event) × (next_event x.state x.stream ≡ e) × (AllFit x.state (e ∷ []) × StandsAt stream new (moved x e))) → new.monitor.core.ticks ≤ old.monitor.core.ticks + 1 → new.monitor.core.space ≡ old.monitor.core.space → new.monitor.core.regions.cap ≡ old.monitor.core.regions.cap → length new.pages.tags ≡ length old.pages.tags → IsAdvance stream old new 1
@@ -143,7 +129,4 @@ observe_advances {R} stream m new pages source fits shown cap event =
 pub load_below : (ph : Phase) (rows : ℕ) → IsLoading ph rows → 0 < rows → load_index ph < rows
 load_below Armed rows fits some = some
 load_below (Checking k) rows fits some = fits
-load_below (Clearing k) rows fits some = absurd fits
-load_below Idle rows fits some = absurd fits
-load_below Void rows fits some = absurd fits
-load_below Due rows fits some = absurd fits
+load_below _ rows fits some = absurd fits

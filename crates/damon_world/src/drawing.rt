@@ -1,4 +1,3 @@
-// The random words of an aggregation.
 ghost use Rattle.std.specs.Prelude.{◌≡◌, ◌*◌, ◌/◌, ◌+◌, ◌-◌, ◌≤◌, ◌<◌, ◌++◌, ℕ, length, replicate, slice_index, vec_capacity, vec_len};
 ghost use Rattle.rand_core.specs.Stream.{Stream};
 ghost use Rattle.sampler.specs.Draws.{drawn, drawn_rest};

@@ -1,4 +1,3 @@
-// What holds of the steps of a pass, and of the states for which a world stands.
 ghost use Rattle.std.specs.Prelude.{ℕ};
 ghost use Rattle.live_commit.specs.Commit.{CommitValue};
 ghost use Rattle.damon_core.specs.Bound.{Bound};

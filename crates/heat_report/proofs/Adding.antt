@@ -1,7 +1,7 @@
 -- What a row adds to the columns.
 use Rattle.std.proofs.Common.{◌≡◌, ◌≢◌, ◌⊎◌, inl, inr, ℕ, ◌+◌, ◌-◌, ◌*◌, ◌≤◌, ◌<◌, true, false, List, length, length-set, get_or-set_same, get_or-set_other, refl, sym, ap, ◌∙◌, subst, arith, mul-add, mul-le-mul_left}
 use Rattle.std.specs.Prelude.{sum, max, nat_lt, slice_index, slice_set, if◌then◌else◌}
-use Rattle.std.proofs.lemmas.Bool.{cases_eq, cases_lt}
+use Rattle.std.proofs.lemmas.Bool.{cases_eq}
 use Rattle.std.proofs.lemmas.Bool.Decides.{nat_tests}
 use Rattle.std.proofs.lemmas.List.Sums.{sum_by-set}
 use Rattle.damon_types.specs.declared.row.Row.{Row}
@@ -57,28 +57,11 @@ heat_left r first pages n k some =
 
 -- nothing is added below an index where there is nothing to add
 pub begin_adding : (old : List ℕ) (f : ℕ → ℕ) (k j : ℕ) → (j < k → f j ≡ 0) → slice_index old j ≡ slice_index old j + (if nat_lt j k then f j else 0)
-begin_adding old f k j none = by (cases_lt j k)
-  where
-    by : (j < k) ⊎ (k ≤ j) → slice_index old j ≡ slice_index old j + (if nat_lt j k then f j else 0)
-    by (inl below) =
-        let test : nat_lt j k ≡ true = grind (arith, nat_tests) in
-        rw test (omega (arith, none below))
-    by (inr past) =
-        let test : nat_lt j k ≡ false = grind (arith, nat_tests) in
-        rw test (omega arith)
+begin_adding old f k j none = grind (arith, nat_tests)
 
 -- all is added where there is nothing to add behind an index
 pub end_adding : (old ns : List ℕ) (f : ℕ → ℕ) (k j : ℕ) → (k < j → f j ≡ 0) → slice_index ns j ≡ slice_index old j + (if nat_lt j (k + 1) then f j else 0) → slice_index ns j ≡ slice_index old j + f j
-end_adding old ns f k j none is = by (cases_lt k j)
-  where
-    by : (k < j) ⊎ (j ≤ k) → slice_index ns j ≡ slice_index old j + f j
-    by (inl later) =
-        let test : nat_lt j (k + 1) ≡ false = grind (arith, nat_tests) in
-        let same : slice_index ns j ≡ slice_index old j = is ∙ (rw test (omega arith)) in
-        omega (arith, same, none later)
-    by (inr low) =
-        let test : nat_lt j (k + 1) ≡ true = grind (arith, nat_tests) in
-        is ∙ (rw test refl)
+end_adding old ns f k j none is = grind (arith, nat_tests)
 
 -- no page, no heat
 pub no_heat : (count pages : ℕ) → pages ≡ 0 → count * pages ≡ 0

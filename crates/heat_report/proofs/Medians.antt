@@ -1,13 +1,13 @@
 -- Medians of lists, and of sorted lists.
-use Rattle.std.proofs.Common.{◌≡◌, ◌⊎◌, inl, inr, ℕ, zero, suc, ◌+◌, ◌-◌, ◌*◌, ◌/◌, ◌≤◌, ◌<◌, Bool, true, false, List, [], ◌∷◌, Some, length, take, drop, get_or, refl, sym, ap, ◌∙◌, subst, arith, rules, Less, true≢false}
-use Rattle.std.specs.Prelude.{nat_lt, nat_le, slice_get, unwrap_or, cond, count_by, filter, All, Contains, IfSome, IsPermutation}
+use Rattle.std.proofs.Common.{◌≡◌, ◌⊎◌, inl, inr, ℕ, ◌+◌, ◌-◌, ◌*◌, ◌/◌, ◌≤◌, ◌<◌, Bool, true, false, List, [], ◌∷◌, Some, length, take, drop, get_or, refl, sym, ap, ◌∙◌, subst, arith, rules}
+use Rattle.std.specs.Prelude.{nat_le, slice_get, unwrap_or, cond, count_by, filter, All, Contains, IfSome, IsPermutation}
 use Rattle.std.specs.List.Sorted.{IsSortedBy, IsNonDecreasingBy}
 use Rattle.std.specs.Ordering.{is_lt, nat_cmp}
 use Rattle.std.proofs.lemmas.Bool.{cases_lt}
 use Rattle.std.proofs.lemmas.Bool.Decides.{nat_tests}
-use Rattle.std.proofs.lemmas.List.{get_or-drop, get_or-take, length-drop, length-take}
+use Rattle.std.proofs.lemmas.List.{get_or_default, get_or-drop, get_or-take, length-drop, length-take}
 use Rattle.std.proofs.lemmas.List.Elements.{All-contains, All-head, All-tail, All-weaker, Contains-get_or}
-use Rattle.std.proofs.lemmas.List.Sorted.{All-permutation, Contains-permutation, IsNonDecreasingBy-from_all_adjacent, IsPermutation-sym, length_permutation, sum_by-IsPermutation}
+use Rattle.std.proofs.lemmas.List.Sorted.{All-permutation, Contains-permutation, IsNonDecreasingBy-from_sort, IsPermutation-sym, length_permutation, sum_by-IsPermutation}
 use Rattle.std.proofs.lemmas.List.Sums.{count_by-le-length, sum_by-cons, sum_by-take-drop}
 use Rattle.region_list.specs.Shrink.{least}
 use Rattle.heat_report.specs.declared.sizes.Spread.{Spread}
@@ -105,32 +105,9 @@ pub spread_of_is : (sizes : List ℕ) (s : Spread) → IsSpread sizes s → Some
 spread_of_is [] s is = absurd (omega (arith, is.least_in.1))
 spread_of_is (n ∷ ns) s is = ap (λ (t : Spread). Some t) (spread_once (n ∷ ns) s _ is (spread_exists n ns))
 
--- numbers that std sorted do not fall
-nat_cmp_less : (y x : ℕ) → nat_lt y x ≡ true → nat_cmp y x ≡ Less
-nat_cmp_less y x is = rw is refl
-
-not_less : (x y : ℕ) → is_lt (nat_cmp y x) ≡ false → x ≤ y
-not_less x y test = by (cases_lt y x)
-  where
-    by : (y < x) ⊎ (x ≤ y) → x ≤ y
-    by (inl less) =
-        let is : nat_lt y x ≡ true = grind (arith, nat_tests) in
-        absurd (true≢false (sym (ap is_lt (nat_cmp_less y x is)) ∙ test))
-    by (inr low) = low
-
 -- the place of the median of sorted sizes
 abbrev pub middle : List ℕ → ℕ
 middle ns = (length ns - 1) / 2
-
--- an item that is there is the same for each default
-get_or-default : (xs : List ℕ) (i d e : ℕ) → i < length xs → get_or xs i d ≡ get_or xs i e
-get_or-default [] i d e here = absurd (omega arith)
-get_or-default (x ∷ xs) zero d e here = refl
-get_or-default (x ∷ xs) (suc i) d e here = get_or-default xs i d e (omega arith)
-
-rising : (ys : List ℕ) → IsSortedBy (λ x y. is_lt (nat_cmp x y)) ys → IsNonDecreasingBy (λ n. n) ys
-rising ys sorted =
-    IsNonDecreasingBy-from_all_adjacent (λ n. n) ys (λ k d within. not_less (get_or ys k d) (get_or ys (k + 1) d) (sorted k d (omega arith) within))
 
 -- as many as stand up to a place are at most the number there
 counted_to : (ys : List ℕ) (k : ℕ) → IsNonDecreasingBy (λ n. n) ys → k < length ys → k + 1 ≤ up_to ys (get_or ys k 0)
@@ -143,7 +120,7 @@ counted_to ys k up within =
     all : All (λ n. nat_le n (get_or ys k 0) ≡ true) (take (k + 1) ys)
     all i d inside =
         let below : i < k + 1 = omega (arith, inside, len) in
-        let same = get_or-default ys k d 0 within in
+        let same = get_or_default ys k d 0 within in
         at_most (get_or (take (k + 1) ys) i d) (get_or ys k 0) (omega (arith, get_or-take (k + 1) ys i d below, up i k d (omega arith) within, same))
 
 -- at most as many as stand before a place are less than the number there
@@ -154,7 +131,7 @@ counted_before ys k s up within less =
     none : All (λ n. nat_le n s ≡ false) (drop k ys)
     none i d inside =
         let there : k + i < length ys = omega (arith, inside, length-drop k ys) in
-        let same = get_or-default ys k d 0 within in
+        let same = get_or_default ys k d 0 within in
         more_than (get_or (drop k ys) i d) s (omega (arith, get_or-drop k ys i d, up k (k + i) d (omega arith) there, same, less))
 
 -- the middle of sorted sizes is their median
@@ -181,15 +158,15 @@ middle_is xs ys same up some = record {
 -- the spread of sizes that were sorted
 pub sorted_spread : (xs ys : List ℕ) → IsPermutation xs ys → IsSortedBy (λ x y. is_lt (nat_cmp x y)) ys → 0 < length ys → IsSpread xs (record { least = get_or ys 0 0; median = get_or ys (middle ys) 0; greatest = get_or ys (length ys - 1) 0 })
 sorted_spread xs ys same sorted some =
-    let up = rising ys sorted in
+    let up = IsNonDecreasingBy-from_sort (λ n. n) ys sorted in
     let back = IsPermutation-sym xs ys same in
     let last : length ys - 1 < length ys = omega (arith, some) in
     record {
       least_in = Contains-permutation ys xs (get_or ys 0 0) back (Contains-get_or ys 0 0 some);
-      least_is = All-permutation (λ n. get_or ys 0 0 ≤ n) ys xs back (λ k d within. omega (arith, up 0 k d (omega arith) within, get_or-default ys 0 d 0 some));
+      least_is = All-permutation (λ n. get_or ys 0 0 ≤ n) ys xs back (λ k d within. omega (arith, up 0 k d (omega arith) within, get_or_default ys 0 d 0 some));
       median_is = middle_is xs ys same up some;
       greatest_in = Contains-permutation ys xs (get_or ys (length ys - 1) 0) back (Contains-get_or ys (length ys - 1) 0 last);
-      greatest_is = All-permutation (λ n. n ≤ get_or ys (length ys - 1) 0) ys xs back (λ k d within. omega (arith, up k (length ys - 1) d (omega (arith, within)) last, get_or-default ys (length ys - 1) d 0 last));
+      greatest_is = All-permutation (λ n. n ≤ get_or ys (length ys - 1) 0) ys xs back (λ k d within. omega (arith, up k (length ys - 1) d (omega (arith, within)) last, get_or_default ys (length ys - 1) d 0 last));
     }
 
 -- the first number of a list that was read
@@ -203,9 +180,9 @@ spread_read xs ys a b e n same sorted first len mid last =
     let read = first_read ys a first in
     let some = read.0 in
     let mid_is : get_or ys (middle ys) 0 ≡ b =
-    get_or-default ys (middle ys) 0 b (omega (arith, some)) ∙ ap (λ k. get_or ys ((k - 1) / 2) b) (sym len) ∙ sym mid in
+    get_or_default ys (middle ys) 0 b (omega (arith, some)) ∙ ap (λ k. get_or ys ((k - 1) / 2) b) (sym len) ∙ sym mid in
     let last_is : get_or ys (length ys - 1) 0 ≡ e =
-    get_or-default ys (length ys - 1) 0 e (omega (arith, some)) ∙ ap (λ k. get_or ys (k - 1) e) (sym len) ∙ sym last in
+    get_or_default ys (length ys - 1) 0 e (omega (arith, some)) ∙ ap (λ k. get_or ys (k - 1) e) (sym len) ∙ sym last in
     subst (λ k. IsSpread xs (record { least = a; median = b; greatest = k })) last_is
     (subst (λ k. IsSpread xs (record { least = a; median = k; greatest = get_or ys (length ys - 1) 0 })) mid_is
     (subst (λ k. IsSpread xs (record { least = k; median = get_or ys (middle ys) 0; greatest = get_or ys (length ys - 1) 0 })) read.1 (sorted_spread xs ys same sorted some)))

@@ -1,6 +1,6 @@
 -- The heat of pages, row by row.
 use Rattle.std.proofs.Common.{◌≡◌, ◌⊎◌, inl, inr, ℕ, zero, suc, ◌+◌, ◌-◌, ◌*◌, ◌≤◌, ◌<◌, Bool, true, false, List, [], ◌∷◌, Some, refl, ap, ◌∙◌, subst, arith}
-use Rattle.std.specs.Prelude.{find, cond, sum_by, if◌then◌else◌}
+use Rattle.std.specs.Prelude.{filter, find, cond, sum_by, if◌then◌else◌}
 use Rattle.std.specs.List.{range_with_len}
 use Rattle.std.specs.Option.{option_map_or}
 use Rattle.std.proofs.lemmas.Bool.{cases_lt}
@@ -10,6 +10,14 @@ use Rattle.damon_types.specs.declared.row.Row.{Row}
 use Rattle.region_list.specs.Find.{holds_page, AscendFrom}
 use Rattle.heat_report.specs.Heat.{count_at, heat_between}
 use Rattle.heat_report.specs.Overlap.{overlap}
+
+-- what a test lets through, with one more in front
+pub filter_more : (f : Row → ℕ) (p : Row → Bool) (r : Row) (rows : List Row) → sum_by f (filter p (r ∷ rows)) ≡ (if p r then f r else 0) + sum_by f (filter p rows)
+filter_more f p r rows = by (p r)
+  where
+    by : (v : Bool) → sum_by f (cond v (r ∷ filter p rows) (filter p rows)) ≡ (if v then f r else 0) + sum_by f (filter p rows)
+    by true = sum_by-cons f r (filter p rows)
+    by false = omega arith
 
 -- sums that agree number by number
 pub sum_of_two : (f g h : ℕ → ℕ) → ((p : ℕ) → f p ≡ g p + h p) → (a n : ℕ) → sum_by f (range_with_len a n) ≡ sum_by g (range_with_len a n) + sum_by h (range_with_len a n)
@@ -55,16 +63,6 @@ count_more r rows ascend p = by (holds_page p r) refl
         omega (arith, count_before (r.start + r.pages) rows p ascend within)
     by false elsewhere = omega arith
 
--- one page more at the front
-overlap_held : (r : Row) (a n : ℕ) → r.start ≤ a → a < r.start + r.pages → overlap r a (a + suc n) ≡ 1 + overlap r (a + 1) (a + 1 + n)
-overlap_held r a n from to = omega (arith, from, to)
-
-overlap_before : (r : Row) (a n : ℕ) → a < r.start → overlap r a (a + suc n) ≡ overlap r (a + 1) (a + 1 + n)
-overlap_before r a n before = omega (arith, before)
-
-overlap_after : (r : Row) (a n : ℕ) → r.start + r.pages ≤ a → overlap r a (a + suc n) ≡ overlap r (a + 1) (a + 1 + n)
-overlap_after r a n after = omega (arith, after)
-
 -- the pages of one row
 row_heat : (r : Row) (a n : ℕ) → sum_by (count_of r) (range_with_len a n) ≡ r.count * overlap r a (a + n)
 row_heat r a zero =
@@ -81,13 +79,14 @@ row_heat r a (suc n) = by (row_heat r (a + 1) n) (cases_lt a r.start) (cases_lt 
         rw same (omega (arith, first, rest, none))
 
     by : sum_by (count_of r) (range_with_len (a + 1) n) ≡ r.count * overlap r (a + 1) (a + 1 + n) → (a < r.start) ⊎ (r.start ≤ a) → (a < r.start + r.pages) ⊎ (r.start + r.pages ≤ a) → sum_by (count_of r) (range_with_len a (suc n)) ≡ r.count * overlap r a (a + suc n)
-    by rest (inl before) other = outside rest (grind (arith, nat_tests)) (overlap_before r a n before)
-    by rest (inr from) (inr after) = outside rest (grind (arith, nat_tests)) (overlap_after r a n after)
+    by rest (inl before) other = outside rest (grind (arith, nat_tests)) (omega (arith, before))
+    by rest (inr from) (inr after) = outside rest (grind (arith, nat_tests)) (omega (arith, after))
     by rest (inr from) (inl to) =
         let held : holds_page a r ≡ true = grind (arith, nat_tests) in
         let one : count_of r a ≡ r.count = rw held refl in
         let more : r.count * (1 + overlap r (a + 1) (a + 1 + n)) ≡ r.count + r.count * overlap r (a + 1) (a + 1 + n) = omega arith in
-        rw (overlap_held r a n from to) (omega (arith, first, rest, one, more))
+        let held_is : overlap r a (a + suc n) ≡ 1 + overlap r (a + 1) (a + 1 + n) = omega (arith, from, to) in
+        rw held_is (omega (arith, first, rest, one, more))
 
 -- the heat of pages is what each row adds
 pub heat_by_rows : (q : ℕ) (rows : List Row) (from to : ℕ) → AscendFrom q rows → heat_between rows from to ≡ sum_by (λ r. r.count * overlap r from to) rows

@@ -1,6 +1,6 @@
 -- Pages by tenths of the passes.
-use Rattle.std.proofs.Common.{◌≡◌, ◌≢◌, ◌⊎◌, inl, inr, ℕ, zero, suc, ◌+◌, ◌-◌, ◌*◌, ◌≤◌, ◌<◌, ◌^◌, Bool, true, false, List, [], ◌∷◌, length, drop, get_or, refl, ap, ◌∙◌, arith}
-use Rattle.std.specs.Prelude.{◌==◌, cond, filter, sum, sum_by, slice_index, if◌then◌else◌}
+use Rattle.std.proofs.Common.{◌≡◌, ◌≢◌, ◌⊎◌, inl, inr, ℕ, zero, suc, ◌+◌, ◌-◌, ◌*◌, ◌≤◌, ◌<◌, ◌^◌, true, false, List, [], ◌∷◌, length, drop, get_or, refl, ap, ◌∙◌, arith}
+use Rattle.std.specs.Prelude.{◌==◌, filter, sum, sum_by, slice_index, if◌then◌else◌}
 use Rattle.std.specs.List.{range_with_len}
 use Rattle.std.proofs.lemmas.Bool.{cases_eq}
 use Rattle.std.proofs.lemmas.Bool.Decides.{nat_tests}
@@ -10,15 +10,7 @@ use Rattle.std.proofs.lemmas.List.Sums.{sum-map, sum_by-cons}
 use Rattle.damon_types.specs.declared.row.Row.{Row}
 use Rattle.damon_types.specs.RowPages.{row_pages}
 use Rattle.heat_report.specs.Freq.{freqs, tenths}
-use Rattle.heat_report.proofs.Pages.{sum_of_two}
-
--- the pages of rows that pass a test, with one more row in front
-pub pages_more : (p : Row → Bool) (r : Row) (rows : List Row) → row_pages (filter p (r ∷ rows)) ≡ (if p r then r.pages else 0) + row_pages (filter p rows)
-pages_more p r rows = by (p r) refl
-  where
-    by : (v : Bool) → p r ≡ v → row_pages (cond v (r ∷ filter p rows) (filter p rows)) ≡ (if v then r.pages else 0) + row_pages (filter p rows)
-    by true test = sum_by-cons (λ (s : Row). s.pages) r (filter p rows)
-    by false test = omega arith
+use Rattle.heat_report.proofs.Pages.{filter_more, sum_of_two}
 
 -- rows are added up to those that are left
 pub record IsTally (aggr : ℕ) (rows : List Row) (count : ℕ) (ns : List ℕ) (left : List Row) : Type 0 where
@@ -64,7 +56,7 @@ counted_once k x a (suc n) from to = by (cases_eq k a) (λ later. counted_once k
 all_by_tenths : (aggr : ℕ) (rows : List Row) → sum_by (λ i. row_pages (filter (λ r. tenths aggr r == i) rows)) (range_with_len 0 11) ≡ row_pages rows
 all_by_tenths aggr [] = refl
 all_by_tenths aggr (r ∷ rows) =
-    let two = sum_of_two (λ i. row_pages (filter (λ s. tenths aggr s == i) (r ∷ rows))) (λ i. if tenths aggr r == i then r.pages else 0) (λ i. row_pages (filter (λ s. tenths aggr s == i) rows)) (λ i. pages_more (λ s. tenths aggr s == i) r rows) 0 11 in
+    let two = sum_of_two (λ i. row_pages (filter (λ s. tenths aggr s == i) (r ∷ rows))) (λ i. if tenths aggr r == i then r.pages else 0) (λ i. row_pages (filter (λ s. tenths aggr s == i) rows)) (λ i. filter_more (λ (s : Row). s.pages) (λ s. tenths aggr s == i) r rows) 0 11 in
     let most : tenths aggr r < 0 + 11 = omega arith in
     omega (arith, two, counted_once (tenths aggr r) r.pages 0 11 (omega arith) most, all_by_tenths aggr rows, sum_by-cons (λ (s : Row). s.pages) r rows)
 

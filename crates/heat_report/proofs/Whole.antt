@@ -3,6 +3,7 @@ use Rattle.std.proofs.Common.{◌≡◌, ℕ, zero, suc, ◌+◌, ◌*◌, ◌<�
 use Rattle.std.specs.Prelude.{sum, slice_get, slice_index}
 use Rattle.std.specs.List.{AllByRecursion}
 use Rattle.std.specs.Option.{option_map_or}
+use Rattle.std.proofs.lemmas.List.{get_or-replicate}
 use Rattle.std.proofs.lemmas.List.FromFn.{fill_by_all}
 use Rattle.std.proofs.lemmas.List.Folds.{sum_by-replicate}
 use Rattle.std.proofs.lemmas.List.Sums.{sum_by-cons, sum_by-take-drop}
@@ -61,11 +62,6 @@ column_is : (ts : List Target) (target pages n j : ℕ) (rows : List Row) (i : �
 column_is ts target pages n j rows i lie before =
     omega (arith, none_before_target ts target pages n j rows i lie.each before, sum_by-take-drop (λ (r : Row). r.count * pages_in (offset ts target) pages n j r) rows i, heat_by_rows 0 rows (border (offset ts target) pages n j) (border (offset ts target) pages n (j + 1)) lie.ascend)
 
-index_of_zeros : (n j : ℕ) → slice_index (replicate n 0) j ≡ 0
-index_of_zeros zero j = refl
-index_of_zeros (suc n) zero = refl
-index_of_zeros (suc n) (suc j) = index_of_zeros n j
-
 -- the heat of all columns
 pub heats_are : (ts : List Target) (target n i first pages : ℕ) (rows : List Row) (old new : List ℕ) → first ≡ offset ts target → pages ≡ target_pages ts target → LieIn ts rows → AllByRecursion (λ r. r.start < first) (take i rows) → old ≡ replicate n 0 → length new ≡ n → ((j : ℕ) → j < n → slice_index new j ≡ slice_index old j + added first pages n j (drop i rows)) → new ≡ target_heats rows ts target n
 heats_are ts target n i first pages rows old new first_is pages_is lie before zeros len heat =
@@ -73,7 +69,7 @@ heats_are ts target n i first pages rows old new first_is pages_is lie before ze
   where
     each : (j : ℕ) → j < n → get_or new j 0 ≡ heat_between rows (border (offset ts target) (target_pages ts target) n j) (border (offset ts target) (target_pages ts target) n (j + 1))
     each j below =
-        let none : slice_index old j ≡ 0 = ap (λ xs. slice_index xs j) zeros ∙ index_of_zeros n j in
+        let none : slice_index old j ≡ 0 = ap (λ xs. slice_index xs j) zeros ∙ get_or-replicate n j 0 0 below in
         let here : added first pages n j (drop i rows) ≡ added (offset ts target) (target_pages ts target) n j (drop i rows) =
         ap (λ p. added p pages n j (drop i rows)) first_is ∙ ap (λ p. added (offset ts target) p n j (drop i rows)) pages_is in
         let begun = subst (λ p. AllByRecursion (λ (r : Row). r.start < p) (take i rows)) first_is before in

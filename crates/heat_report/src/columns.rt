@@ -1,4 +1,3 @@
-// The columns of a target.
 ghost use Rattle.std.specs.Prelude.{◌≡◌, ◌+◌, ◌≤◌, ◌<◌, ◌^◌};
 ghost use Rattle.heat_report.specs.Heat.{border};
 ghost use Rattle.heat_report.specs.Overlap.{pages_in};

@@ -1,4 +1,3 @@
-// How many pages were accessed how often.
 ghost use Rattle.std.specs.Prelude.{◌≡◌, ◌≤◌, replicate};
 ghost use Rattle.damon_types.specs.RowPages.{working_set};
 ghost use Rattle.heat_report.specs.Freq.{freqs, tenths};

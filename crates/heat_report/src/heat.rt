@@ -1,4 +1,3 @@
-// The heat of the columns of a target.
 ghost use Rattle.std.specs.Prelude.{◌≡◌, ℕ, ◌+◌, ◌*◌, ◌≤◌, ◌<◌, ◌^◌, List, length, replicate, slice_index, sum, take, drop};
 ghost use Rattle.std.specs.List.{AllByRecursion};
 ghost use Rattle.damon_types.specs.declared.attrs.TheConstants.{MAX_AGGR};

@@ -1,4 +1,3 @@
-// Laws of the definitions, for the crates above. No function here does anything.
 ghost use Rattle.std.specs.Prelude.{ℕ, List, IfSome};
 ghost use Rattle.heat_report.specs.Sizes.{IsSpread, spread_of};
 

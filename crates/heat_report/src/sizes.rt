@@ -1,4 +1,3 @@
-// Sizes and their spread.
 ghost use Rattle.std.specs.Prelude.{◌≡◌, ◌↔◌, [], ◌∷◌, ◌++◌, length, None, IfSome, OnOk, OnErr, IsPermutation};
 ghost use Rattle.heat_report.specs.Sizes.{IsSpread, spread_of};
 

@@ -15,45 +15,27 @@ part_most bytes difference target some most =
 
 -- what lies between the bounds, each held down by the top
 pub least_of_bounds : (g : Goal) (bytes top score : ℕ) → min g.low top ≤ next g bytes top score
-least_of_bounds g bytes top score = held g.low g.high top (asked g bytes score)
-  where
-    held : (low high top x : ℕ) → min low top ≤ min top (max low (min high x))
-    held low high top x = omega arith
+least_of_bounds g bytes top score = omega arith
 
 pub most_of_bounds : (g : Goal) (bytes top score : ℕ) → g.low ≤ g.high → next g bytes top score ≤ min g.high top
-most_of_bounds g bytes top score order = held g.low g.high top (asked g bytes score) order
-  where
-    held : (low high top x : ℕ) → low ≤ high → min top (max low (min high x)) ≤ min high top
-    held low high top x order = omega arith
+most_of_bounds g bytes top score order = omega (arith, order)
 
 -- below the target more is asked for
 pub bytes_rise : (g : Goal) (bytes top score : ℕ) → score < g.target → bytes ≤ min g.high top → bytes ≤ next g bytes top score
-bytes_rise g bytes top score below within = held g.low g.high top (asked g bytes score) more within
+bytes_rise g bytes top score below within =
+    let test : nat_lt score g.target ≡ true = grind (arith, nat_tests, below) in
+    let asks : asked g bytes score ≡ bytes + part bytes (g.target - score) g.target = rw test refl in
+    held g.low g.high top (asked g bytes score) (omega (arith, asks)) within
   where
-    test : nat_lt score g.target ≡ true
-    test = grind (arith, nat_tests, below)
-
-    asks : asked g bytes score ≡ bytes + part bytes (g.target - score) g.target
-    asks = rw test refl
-
-    more : bytes ≤ asked g bytes score
-    more = omega (arith, asks)
-
     held : (low high top x : ℕ) → bytes ≤ x → bytes ≤ min high top → bytes ≤ min top (max low (min high x))
     held low high top x more within = omega arith
 
 -- from the target on less is asked for
 pub bytes_fall : (g : Goal) (bytes top score : ℕ) → g.target ≤ score → min g.low top ≤ bytes → next g bytes top score ≤ bytes
-bytes_fall g bytes top score reached within = held g.low g.high top (asked g bytes score) less within
+bytes_fall g bytes top score reached within =
+    let test : nat_lt score g.target ≡ false = grind (arith, nat_tests, reached) in
+    let asks : asked g bytes score ≡ bytes - part bytes (min (score - g.target) g.target) g.target = rw test refl in
+    held g.low g.high top (asked g bytes score) (omega (arith, asks)) within
   where
-    test : nat_lt score g.target ≡ false
-    test = grind (arith, nat_tests, reached)
-
-    asks : asked g bytes score ≡ bytes - part bytes (min (score - g.target) g.target) g.target
-    asks = rw test refl
-
-    less : asked g bytes score ≤ bytes
-    less = omega (arith, asks)
-
     held : (low high top x : ℕ) → x ≤ bytes → min low top ≤ bytes → min top (max low (min high x)) ≤ bytes
     held low high top x less within = omega arith

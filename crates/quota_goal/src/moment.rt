@@ -1,6 +1,5 @@
-// Moments at which goals are scored.
 ghost use Rattle.std.specs.Prelude.{◌≡◌};
-ghost use Rattle.quota_goal.specs.Moment.{metric_score, score_of, seen_score};
+ghost use Rattle.quota_goal.specs.Moment.{score_of};
 
 use crate::{GoalKind, Seen};
 
@@ -19,28 +18,16 @@ impl Moment {
         ensures { result ≡ score_of kind self.now }
     {
         match *self {
-            Moment::Metric { value } => metric_score(kind, value),
-            Moment::Seen { seen } => seen_score(kind, seen),
+            Moment::Metric { value } => match kind {
+                GoalKind::Metric => Some(value),
+                GoalKind::Hot => None,
+                GoalKind::Cold => None,
+            },
+            Moment::Seen { seen } => match kind {
+                GoalKind::Metric => None,
+                GoalKind::Hot => Some(seen.hot),
+                GoalKind::Cold => Some(seen.cold),
+            },
         }
-    }
-}
-
-fn metric_score(kind: GoalKind, value: u32) -> Option<u32>
-    ensures { result ≡ metric_score kind value }
-{
-    match kind {
-        GoalKind::Metric => Some(value),
-        GoalKind::Hot => None,
-        GoalKind::Cold => None,
-    }
-}
-
-fn seen_score(kind: GoalKind, seen: Seen) -> Option<u32>
-    ensures { result ≡ seen_score kind seen }
-{
-    match kind {
-        GoalKind::Metric => None,
-        GoalKind::Hot => Some(seen.hot),
-        GoalKind::Cold => Some(seen.cold),
     }
 }

@@ -1,4 +1,3 @@
-// The bytes that follow from a score.
 ghost use Rattle.std.specs.Prelude.{◌≡◌, ◌≤◌};
 ghost use Rattle.quota_goal.specs.Next.{next, part};
 

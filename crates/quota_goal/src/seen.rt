@@ -1,4 +1,3 @@
-// How much of the watched memory is hot, and how much is cold.
 ghost use Rattle.std.specs.Prelude.{◌≡◌, ◌≤◌};
 ghost use Rattle.damon_types.specs.RowPages.{row_pages};
 ghost use Rattle.quota_goal.specs.Seen.{seen, thousandths};

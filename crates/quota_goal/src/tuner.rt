@@ -1,11 +1,10 @@
-// Slots whose quotas follow goals.
 ghost use Rattle.std.specs.Prelude.{◌≡◌, ◌≤◌, IfSome};
 ghost use Rattle.std.specs.List.{AllByRecursion};
 ghost use Rattle.std.specs.Option.{option_map_or};
 ghost use Rattle.damon_types.specs.declared.scheme.TheConstants.{MAX_SLOT};
 ghost use Rattle.quota_goal.specs.Goals.{IsGoal};
 ghost use Rattle.quota_goal.specs.Kept.{less};
-ghost use Rattle.quota_goal.specs.Tuned.{after_change, all_given, bytes_at, change_at, given, least_of, new_bytes, next_of, nexts, retuned, top_after, tunable_bytes, tuned_at, untuned, with_bytes};
+ghost use Rattle.quota_goal.specs.Tuned.{after_change, all_given, bytes_at, change_at, given, least_of, next_of, nexts, top_after, tunable_bytes, tuned_at, untuned, with_bytes};
 
 use crate::{Goal, Goals, Moment, next_bytes};
 use damon_types::{MAX_SLOT, Quota, Scheme, SlotChange};
@@ -85,30 +84,15 @@ impl Tuner {
         requires { slot ≤ MAX_SLOT }
         ensures { result ≡ tuned_at self.now slot moment.now }
     {
-        match &self.schemes[usize::from(slot)] {
-            Some(scheme) => self.retuned(scheme, slot, moment),
-            None => None,
+        let index = usize::from(slot);
+        let scheme = self.schemes[index]?;
+        let bytes = tunable_bytes(&scheme)?;
+        let goals = self.goals.as_slice();
+        let next = least_next(goals, slot, moment, bytes, self.tops[index])?;
+        if next == bytes {
+            return None;
         }
-    }
-
-    // The same, where the slot holds this scheme.
-    fn retuned(&self, scheme: &Scheme, slot: u8, moment: &Moment) -> Option<Scheme>
-        requires { slot ≤ MAX_SLOT }
-        ensures { result ≡ retuned self.now slot moment.now scheme.now }
-    {
-        let bytes = tunable_bytes(scheme)?;
-        let next = self.new_bytes(bytes, slot, moment)?;
-        Some(with_bytes(*scheme, next))
-    }
-
-    // The new bytes of a slot with these bytes, where they differ.
-    fn new_bytes(&self, bytes: u64, slot: u8, moment: &Moment) -> Option<u64>
-        requires { slot ≤ MAX_SLOT }
-        ensures { result ≡ new_bytes self.now slot moment.now bytes }
-    {
-        let top = self.tops[usize::from(slot)];
-        let next = least_next(self.goals.as_slice(), slot, moment, bytes, top)?;
-        if next == bytes { None } else { Some(next) }
+        Some(with_bytes(scheme, next))
     }
 
     /// The bytes in force of a slot, at most [`MAX_SLOT`]; `None` exactly where it is not tunable.
@@ -142,13 +126,9 @@ impl Tuner {
 fn top_after(scheme: Option<Scheme>, top: u64) -> u64
     ensures { result ≡ top_after scheme top }
 {
-    match scheme {
-        Some(scheme) => match scheme.quota {
-            Some(quota) => quota.bytes,
-            None => top,
-        },
-        None => top,
-    }
+    scheme
+        .and_then(|scheme| scheme.quota)
+        .map_or(top, |quota| quota.bytes)
 }
 
 // The bytes of a scheme with a quota and no marks.
@@ -158,8 +138,7 @@ fn tunable_bytes(scheme: &Scheme) -> Option<u64>
     if scheme.marks.is_some() {
         return None;
     }
-    let quota = scheme.quota?;
-    Some(quota.bytes)
+    scheme.quota.map(|quota| quota.bytes)
 }
 
 // The same scheme with these bytes in its quota.
@@ -200,9 +179,6 @@ fn less(first: Option<u64>, second: Option<u64>) -> Option<u64>
 {
     match first {
         None => second,
-        Some(a) => match second {
-            None => first,
-            Some(b) => Some(a.min(b)),
-        },
+        Some(a) => Some(second.map_or(a, |b| a.min(b))),
     }
 }

@@ -1,15 +1,12 @@
 -- A page is out since its last `pageout` note.
-use Rattle.std.proofs.Common.{◌≡◌, ℕ, Bool, true, false, not, ◌&&◌, ◌||◌, List, [], ◌∷◌, ◌++◌, refl, sym, ap, subst, ◌∙◌}
+use Rattle.std.proofs.Common.{◌≡◌, ℕ, Bool, true, false, not, ◌&&◌, ◌||◌, List, [], ◌∷◌, ◌++◌, refl, sym, ap, subst, ◌∙◌, arith}
 use Rattle.std.proofs.lemmas.Bool.{false≢true}
 use Rattle.damon_core.specs.Note.{Note}
 use Rattle.reclaim_module.specs.Out.{AllLeavePage, IsOutSinceLast, LeavesPage, is_out, is_paged_out, is_prefetched, is_touch_of}
 
 -- whether a page is out after a note that does not page it out
 was_out : (out touch back : Bool) → (out && not (touch || back)) ≡ true → (out ≡ true) × (touch ≡ false) × (back ≡ false)
-was_out true false false is = (refl, refl, refl)
-was_out true false true is = absurd (false≢true is)
-was_out true true back is = absurd (false≢true is)
-was_out false touch back is = absurd (false≢true is)
+was_out out touch back is = (grind arith, grind arith, grind arith)
 
 -- the last note is found
 pub since_last : (notes : List Note) (page : ℕ) → is_out notes page ≡ true → IsOutSinceLast notes page
@@ -35,11 +32,9 @@ kept_out : (newer before : List Note) (page : ℕ) → is_out before page ≡ tr
 kept_out [] before page is all = is
 kept_out (note ∷ newer) before page is all =
     let rest = newer ++ before in
-    let out = kept_out newer before page is all.1 in
-    ap (λ b. b || (is_out rest page && not (is_touch_of note page || is_prefetched rest note page))) all.0.gone
-    ∙ ap (λ b. b && not (is_touch_of note page || is_prefetched rest note page)) out
-    ∙ ap (λ b. not (b || is_prefetched rest note page)) all.0.touch
-    ∙ ap not all.0.back
+    by (is_paged_out rest note page) (is_out rest page) (is_touch_of note page) (is_prefetched rest note page) all.0.gone (kept_out newer before page is all.1) all.0.touch all.0.back where
+      by : (g o t b : Bool) → g ≡ false → o ≡ true → t ≡ false → b ≡ false → (g || (o && not (t || b))) ≡ true
+      by g o t b gone out touch back = grind arith
 
 pub out_by_last : (notes : List Note) (page : ℕ) → IsOutSinceLast notes page → is_out notes page ≡ true
 out_by_last notes page since =

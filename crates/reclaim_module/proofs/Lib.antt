@@ -1,10 +1,9 @@
-mod Counting
 mod Moving
 mod Standing
 mod Serving
+mod Following
 mod Balancing
 mod Reaching
-mod Following
 mod TouchedRuns
 mod BySlot
 mod Lasting

@@ -1,6 +1,5 @@
 -- For which notes a model of resident pages stands, and what the events of a monitor make of it.
-use Rattle.std.specs.Prelude.{◌≡◌, ℕ, ◌<◌, List, [], ◌∷◌, length}
-use Rattle.std.specs.List.{AllByRecursion}
+use Rattle.std.specs.Prelude.{◌≡◌, ℕ, List, [], ◌∷◌, length}
 use Rattle.std.specs.Option.{option_map_or}
 use Rattle.page_bits.specs.Sets.{each_page}
 use Rattle.damon_types.specs.declared.scheme.Action.{Action}
@@ -61,12 +60,3 @@ abbrev pub LeavesPages : Event → Type 0
 LeavesPages (touch page) = ⊥
 LeavesPages (aggregate words) = ⊥
 LeavesPages _ = Unit {0}
-
--- a touch is of a page of the space
-abbrev pub IsTouchWithin : ℕ → Note → Type 0
-IsTouchWithin pages (touched page) = page < pages
-IsTouchWithin pages _ = Unit {0}
-
--- each touch is
-abbrev pub TouchesWithin : ℕ → List Note → Type 0
-TouchesWithin pages notes = AllByRecursion (IsTouchWithin pages) notes

@@ -1,4 +1,3 @@
-// What the calls make of a monitor's notes, for the crates above. No function here does anything.
 ghost use Rattle.std.specs.Prelude.{◌≡◌, ℕ, true, not, count_by, List, length};
 ghost use Rattle.damon_core.specs.Note.{Note};
 ghost use Rattle.damon_core.specs.State.{State};

@@ -1,22 +1,16 @@
 -- The commit of the share is accepted: there are no more ranges than regions allowed.
-use Rattle.std.proofs.Common.{◌≡◌, ℕ, ◌≤◌, Bool, List, [], ◌∷◌, length, Option, Some, None, Result, Ok, Err, refl, sym, ap, ◌∙◌, subst, arith}
+use Rattle.std.proofs.Common.{◌≡◌, ℕ, ◌≤◌, Bool, List, [], ◌∷◌, length, Result, Ok, Err, refl, sym, ap, ◌∙◌, subst, arith}
 use Rattle.std.specs.Result.{result_and}
 use Rattle.std.proofs.lemmas.Bool.Decides.{nat_tests}
-use Rattle.std.proofs.lemmas.List.{length-map}
-use Rattle.damon_types.specs.declared.attrs.Attrs.{Attrs}
-use Rattle.damon_types.specs.declared.range.RangeSpec.{RangeSpec}
-use Rattle.damon_types.specs.declared.scheme.CostPart.{CostPart}
-use Rattle.damon_types.specs.declared.scheme.SlotChange.{SlotChange}
 use Rattle.damon_types.proofs.Lemmas.{both_ok}
-use Rattle.target_ranges.specs.Made.{range_of}
 use Rattle.live_commit.specs.declared.fault.CommitFault.{CommitFault}
 use Rattle.live_commit.specs.declared.phase.Phase.{Phase}
-use Rattle.live_commit.specs.declared.phase.Phase.TheVariants.{Idle, Clearing, Armed, Checking, Void, Due}
+use Rattle.live_commit.specs.declared.phase.Phase.TheVariants.{Idle, Clearing, Armed, Checking, Void}
 use Rattle.live_commit.specs.Accepts.{checked_cost, checked_new_attrs, checked_new_ranges, checked_new_slot, checked_number, checked_phase, max_after, ranges_after}
 use Rattle.live_commit.specs.Commit.{CommitValue}
 use Rattle.damon_core.specs.After.{after, by_clear, by_load, by_observe}
-use Rattle.damon_core.specs.Commit.{check_of, committed, committed_core, if_accepted, view_of}
-use Rattle.damon_core.specs.Event.{Event, touch, prepare, clear, load, observe, aggregate, commit, show}
+use Rattle.damon_core.specs.Commit.{check_of, committed, if_accepted, view_of}
+use Rattle.damon_core.specs.Event.{Event, clear, load, observe, aggregate, commit}
 use Rattle.damon_core.specs.Reached.{run}
 use Rattle.damon_core.specs.State.{Core, State, opening, row_count}
 use Rattle.damon_core.proofs.Lemmas.{few_after}
@@ -50,38 +44,25 @@ few_committed parts s (Ok t) is few =
     few_after c parts.attrs parts.ranges parts.slot parts.metric parts.cost (number_fits (ranges_after parts.ranges v.ranges) (max_after parts.attrs v.max) (both_ok number _ ranges.1).0)
 
 few_cleared : (phase : Phase) (s : State) → RangesAreFew s → RangesAreFew (by_clear phase s)
-few_cleared Idle s few = few
 few_cleared (Clearing k) s few = few
-few_cleared Armed s few = few
-few_cleared (Checking k) s few = few
-few_cleared Void s few = few
-few_cleared Due s few = few
+few_cleared _ s few = few
 
 few_loaded : (phase : Phase) (hit : Bool) (s : State) → RangesAreFew s → RangesAreFew (by_load phase hit s)
-few_loaded Idle hit s few = few
-few_loaded (Clearing k) hit s few = few
 few_loaded Armed hit s few = few
 few_loaded (Checking k) hit s few = few
-few_loaded Void hit s few = few
-few_loaded Due hit s few = few
+few_loaded _ hit s few = few
 
 few_observed : (phase : Phase) (s : State) → RangesAreFew s → RangesAreFew (by_observe phase s)
-few_observed Idle s few = few
-few_observed (Clearing k) s few = few
-few_observed Armed s few = few
 few_observed (Checking k) s few = few
 few_observed Void s few = few
-few_observed Due s few = few
+few_observed _ s few = few
 
 few_then : (e : Event) (s : State) → RangesAreFew s → RangesAreFew (after s e)
-few_then (touch page) s few = few
-few_then (prepare words) s few = few
 few_then clear s few = few_cleared s.core.phase s few
 few_then (load hit) s few = few_loaded s.core.phase hit s few
 few_then observe s few = few_observed s.core.phase s few
-few_then (aggregate words) s few = few
 few_then (commit parts) s few = few_committed parts s (check_of parts s.core) refl few
-few_then show s few = few
+few_then _ s few = few
 
 few_run : (es : List Event) (s : State) → RangesAreFew s → RangesAreFew (run s es)
 few_run [] s few = few
@@ -99,16 +80,10 @@ metric_accepted c value idle few =
     ∙ ap (λ r. result_and r (Ok tt)) (number_is_few (length c.regions.ranges) c.attrs.max few)
 
 share_accepted : (s : State) (e : Event) → RangesAreFew s → AllAccepted (after s e) (share_after (after s e) e)
-share_accepted s (touch page) few = tt
-share_accepted s (prepare words) few = tt
-share_accepted s clear few = tt
-share_accepted s (load hit) few = tt
-share_accepted s observe few = tt
 share_accepted s (aggregate words) few =
     let t = after s (aggregate words) in
     (metric_accepted t.core (thousandths (figures_in t).out (pages_in t)) refl (few_then (aggregate words) s few), tt)
-share_accepted s (commit parts) few = tt
-share_accepted s show few = tt
+share_accepted s _ few = tt
 
 pub shares_accepted : (s : ScriptValue) → IsSound s → PutsAreAccepted reclaim_callbacks s
 shares_accepted s sound made rest e own =

@@ -1,5 +1,5 @@
 -- What an aggregation applies, and that what goes out fits in 64 bits.
-use Rattle.std.proofs.Common.{◌≡◌, ℕ, ◌+◌, ◌-◌, ◌*◌, ◌^◌, ◌≤◌, ◌<◌, List, [], ◌∷◌, length, refl, sym, ap, subst, ◌∙◌, arith}
+use Rattle.std.proofs.Common.{◌≡◌, ℕ, ◌+◌, ◌*◌, ◌^◌, ◌≤◌, ◌<◌, List, [], ◌∷◌, length, refl, sym, ap, subst, ◌∙◌, arith}
 use Rattle.std.specs.List.{AllByRecursion}
 use Rattle.std.proofs.lemmas.Nat.{mul-le}
 use Rattle.damon_types.specs.declared.scheme.TheConstants.{MAX_SLOT}
@@ -11,24 +11,20 @@ use Rattle.damon_core.specs.After.{after}
 use Rattle.damon_core.specs.Aggregate.{aggregated, served}
 use Rattle.damon_core.specs.Event.{aggregate}
 use Rattle.damon_core.proofs.Lemmas.{Reached-run}
-use Rattle.damon_core.specs.Reached.{Reached}
 use Rattle.damon_core.specs.Slots.{slots_of}
 use Rattle.damon_core.specs.Stands.{MonitorView}
 use Rattle.damon_core.specs.State.{Core, State}
 use Rattle.script_run.specs.Calls.{IsAggregated}
-use Rattle.reclaim_module.specs.Counts.{pageouts_of}
 use Rattle.reclaim_module.specs.Pages.{ReclaimView}
 use Rattle.reclaim_module.specs.Stands.{after_applied, after_event}
 use Rattle.reclaim_run.specs.Stands.{Models}
 use Rattle.reclaim_module.proofs.Lemmas.{applied_alike, few_went_out, runs_of_slots, schemes_stay, space_stays}
 use Rattle.reclaim_run.proofs.Following.{models_follow}
 
--- half of 17 times the pages of a space in each of fewer than 2^40 passes
-few_fit : (n pages ticks : ℕ) → 2 * n ≤ 17 * pages * ticks → pages ≤ 1048576 → ticks < 2 ^ 40 → n < 2 ^ 64
+-- 16 times the pages of a space in each of fewer than 2^40 passes
+few_fit : (n pages ticks : ℕ) → n ≤ ticks * (16 * pages) → pages ≤ 1048576 → ticks < 2 ^ 40 → n < 2 ^ 64
 few_fit n pages ticks most few short =
-    let first : 17 * pages ≤ 17 * 1048576 = omega (arith, few) in
-    let all : 17 * pages * ticks ≤ 17 * 1048576 * 1099511627776 = mul-le (17 * pages) ticks (17 * 1048576) 1099511627776 first (omega (arith, short)) in
-    omega (arith, most, all)
+    omega (arith, most, mul-le ticks (16 * pages) 1099511627775 (16 * 1048576) (omega (arith, short)) (omega (arith, few)))
 
 module _ (old : ReclaimView) (m : MonitorView) (memory : List ℕ) (s : State) (words : List ℕ)
     (is : IsAggregated (λ memory t. Models old t) m memory s words) where
@@ -70,13 +66,9 @@ module _ (old : ReclaimView) (m : MonitorView) (memory : List ℕ) (s : State) (
       let next = after s (aggregate words) in
       let new = after_applied (aggregated words s).notes runs old in
       let here : Models new next = stands_after new runs shown refl in
-      let reached : Reached next = Reached-run s (aggregate words ∷ []) is.reached (is.fits, tt) in
-      let pages : pages_of next.core.space ≤ 1048576 = subst (λ ts. pages_of ts ≤ 1048576) (ap (λ (q : Core). q.space) is.shows.same) space.total in
-      let is_out_in_all : new.counts.pageouts ≡ pageouts_of (pages_of next.core.space) next.notes =
-      here.stands.pageouts ∙ ap (λ n. pageouts_of n next.notes) here.pages in
-      let most : 2 * pageouts_of (pages_of next.core.space) next.notes ≤ 17 * pages_of next.core.space * (next.core.ticks - next.core.since) = few_went_out next reached in
-      let short : next.core.ticks - next.core.since < 2 ^ 40 = omega (arith, is.few) in
-      subst (λ n. n < 2 ^ 64) (sym is_out_in_all) (few_fit (pageouts_of (pages_of next.core.space) next.notes) (pages_of next.core.space) (next.core.ticks - next.core.since) most pages short)
+      let most = few_went_out (length new.out) next (Reached-run s (aggregate words ∷ []) is.reached (is.fits, tt)) in
+      let pages = subst (λ ts. pages_of ts ≤ 1048576) (ap (λ (q : Core). q.space) is.shows.same) space.total in
+      few_fit new.counts.pageouts (length new.out) next.core.ticks (omega (arith, here.stands.pageouts, most)) (omega (arith, pages, here.pages)) (omega (arith, is.few))
 
   -- the slots of the monitor after it
   pub slots_after : (slots : List SlotValue) → slots ≡ m.slots → slots ≡ slots_of (aggregated words s).notes

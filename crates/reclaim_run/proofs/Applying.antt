@@ -1,7 +1,6 @@
 -- The actions of the slots, and the runs that they are applied to.
-use Rattle.std.proofs.Common.{◌≡◌, ℕ, zero, suc, ◌+◌, ◌≤◌, ◌<◌, Some, None, List, [], ◌∷◌, length, get_or, refl, ap, ◌∙◌, arith}
+use Rattle.std.proofs.Common.{◌≡◌, ℕ, ◌+◌, ◌≤◌, Some, None, List, [], ◌∷◌, refl, ap, ◌∙◌, arith}
 use Rattle.std.specs.Prelude.{Option, slice_index_or}
-use Rattle.std.specs.List.{AllByRecursion}
 use Rattle.std.specs.Option.{option_map, option_map_or}
 use Rattle.std.proofs.lemmas.List.FromFn.{get_or-map-range_with_len}
 use Rattle.std.proofs.lemmas.List.Sums.{sum_by-cons}
@@ -17,12 +16,6 @@ use Rattle.damon_core.specs.Note.{Note}
 use Rattle.damon_core.specs.Slots.{scheme_of, set_scheme_of, slot_count, slot_of, slots_of}
 use Rattle.reclaim_module.specs.Stands.{action_in}
 use Rattle.reclaim_module.proofs.Lemmas.{action_few, applied_next, first_runs_few, length_after_action}
-
--- what holds of all holds of each
-pub one_of_all : {X : Type 0} (P : X → Type 0) (xs : List X) (i : ℕ) (d : X) → i < length xs → AllByRecursion P xs → P (get_or xs i d)
-one_of_all P [] i d below all = absurd (omega (arith, below))
-one_of_all P (x ∷ xs) zero d below all = all.0
-one_of_all P (x ∷ xs) (suc i) d below all = one_of_all P xs i d (omega (arith, below)) all.1
 
 all_slots : MAX_SLOT + 1 ≡ slot_count
 unfolding slot_count

@@ -1,5 +1,5 @@
 -- Touches of pages one after another.
-use Rattle.std.proofs.Common.{◌≡◌, ℕ, zero, suc, ◌+◌, ◌<◌, [], ◌∷◌, ◌++◌, length, sym, ap, ◌∙◌, arith}
+use Rattle.std.proofs.Common.{◌≡◌, ℕ, zero, suc, ◌+◌, ◌<◌, false, length, length-set, ◌∙◌, arith}
 use Rattle.damon_types.specs.Space.{pages_of}
 use Rattle.damon_core.specs.After.{after}
 use Rattle.damon_core.specs.Event.{touch}
@@ -9,22 +9,7 @@ use Rattle.damon_world.specs.Touches.{touches}
 use Rattle.reclaim_module.specs.Calls.{after_touch, touched_run}
 use Rattle.reclaim_module.specs.Pages.{ReclaimView}
 use Rattle.reclaim_module.specs.Stands.{after_events}
-use Rattle.reclaim_module.proofs.Lemmas.{events-append, touched_next, touched_none}
-
--- one touch more
-touches_more : (page n : ℕ) → touches page (suc n) ≡ touches page n ++ touch (page + n) ∷ []
-touches_more page zero = ap (λ p. touch p ∷ []) (omega arith)
-touches_more page (suc n) =
-    let last : page + 1 + n ≡ page + suc n = omega arith in
-    ap (λ es. touch page ∷ es) (touches_more (page + 1) n ∙ ap (λ p. touches (page + 1) n ++ touch p ∷ []) last)
-
--- the same of a model
-pub model_touches_more : (page n : ℕ) (s : State) (r : ReclaimView) → after_events (touches page (n + 1)) s r ≡ after_touch (page + n) (after_events (touches page n) s r)
-model_touches_more page n s r =
-    let next : n + 1 ≡ suc n = omega arith in
-    ap (λ k. after_events (touches page k) s r) next
-    ∙ ap (λ es. after_events es s r) (touches_more page n)
-    ∙ events-append (touches page n) (touch (page + n) ∷ []) s r
+use Rattle.reclaim_module.proofs.Lemmas.{touched_first, touched_none}
 
 -- touches that fit are of pages of the space
 pub touches_are_within : (page n : ℕ) (s : State) → AllFit s (touches page n) → (i : ℕ) → i < n → page + i < pages_of s.core.space
@@ -36,8 +21,5 @@ touches_are_within page (suc n) s fit (suc i) below = omega (arith, touches_are_
 pub run_is_touches : (page n : ℕ) (s : State) (r : ReclaimView) → ((i : ℕ) → i < n → page + i < length r.out) → touched_run page n r ≡ after_events (touches page n) s r
 run_is_touches page zero s r within = touched_none page r
 run_is_touches page (suc n) s r within =
-    let more : suc n ≡ n + 1 = omega arith in
-    ap (λ k. touched_run page k r) more
-    ∙ (touched_next page n r (within n (omega arith))
-    ∙ (ap (after_touch (page + n)) (run_is_touches page n s r (λ i below. within i (omega (arith, below))))
-    ∙ (sym (model_touches_more page n s r) ∙ ap (λ k. after_events (touches page k) s r) (sym more))))
+    touched_first page n r (omega (arith, within 0 (omega arith)))
+    ∙ run_is_touches (page + 1) n (after s (touch page)) (after_touch page r) (λ i below. omega (arith, within (suc i) (omega (arith, below)), length-set r.out page false))

@@ -1,4 +1,3 @@
-// What holds of the events of each script under proactive reclaim.
 ghost use Rattle.reclaim_run.specs.Along.{CountThePages, EachReclaimedRun};
 
 /// Along the run of each script within its limits under proactive reclaim each state is bound, and each page

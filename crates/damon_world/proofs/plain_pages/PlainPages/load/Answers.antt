@@ -1,4 +1,4 @@
-use Rattle.std.proofs.Common.{◌≡◌, ℕ, ◌-◌, Bool, List, ap, subst, ◌∙◌}
+use Rattle.std.proofs.Common.{◌≡◌, ℕ, Bool, List, ap, subst, ◌∙◌}
 use Rattle.page_bits.specs.Bits.{bit_in}
 use Rattle.page_bits.specs.Sets.{bits_of}
 use Rattle.sampler.specs.Loaded.{next_picks}
