@@ -132,7 +132,7 @@ impl<'a, N: Named> Machine<'a, N> {
             self.replaying.monitor(),
             &mut self.hits,
         );
-        self.journal.check(pass, &self.hits);
+        self.journal.check_hits(pass, &self.hits);
         self.replaying.check(&self.hits);
     }
 

@@ -4,6 +4,7 @@ ghost use Rattle.run_journal.specs.Results.{loads_in};
 use crate::entry::{CallAnswer, Entry};
 use crate::load_run::LoadRun;
 use page_bits::BitSet;
+use sampler::Picks;
 use std::alloc::{AllocError, Global};
 use std::marker::Model;
 
@@ -115,7 +116,16 @@ impl Journal {
 
     /// Appends that a pass is checked, with the results of its picks. An entry and as many results must
     /// still fit.
-    pub fn check(&mut self, pass: u64, hits: &[bool])
+    pub fn check(&mut self, pass: u64, picks: &Picks)
+        requires room { length self.old.value.entries < self.old.room }
+        requires bits { length self.old.value.bits + length picks.now.bits ≤ self.old.bit_room }
+        ensures { self.new ≡ with_entry (Check pass) (with_results picks.now.bits self.old) }
+    {
+        self.check_hits(pass, picks.bits());
+    }
+
+    /// The same with these results, one for each pick.
+    pub fn check_hits(&mut self, pass: u64, hits: &[bool])
         requires room { length self.old.value.entries < self.old.room }
         requires bits { length self.old.value.bits + length hits.now ≤ self.old.bit_room }
         ensures { self.new ≡ with_entry (Check pass) (with_results hits.now self.old) }

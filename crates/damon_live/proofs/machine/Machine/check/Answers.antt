@@ -27,15 +27,15 @@ load_all-requires-clause-cleared g c =
     let armed : c.self.inside.replaying.monitor.core.phase ≡ Armed = phase_is c.self.invariant.run.replays c.self.view_is c.requires.armed in
     subst (λ (m : MonitorView). AllByRecursion (λ p. last_clear_of p seat.entries ≡ m.core.ticks + 1) m.core.picks) (sym c.monitor-2.ensures) (c.self.invariant.run.cleared armed)
 
-pub check-requires-clause-bits : goal.check-requires-clause-bits
-check-requires-clause-bits g c =
+pub check_hits-requires-clause-bits : goal.check_hits-requires-clause-bits
+check_hits-requires-clause-bits g c =
     let i = c.self.invariant in
     let armed : c.self.inside.replaying.monitor.core.phase ≡ Armed = phase_is i.run.replays c.self.view_is c.requires.armed in
     let cap : c.monitor-2.result.now.core.regions.cap ≡ g.N.Named.script.setup.cap = ap (λ (m : MonitorView). m.core.regions.cap) c.monitor-2.ensures ∙ cap_kept _ _ _ i.run.replays in
     room_for_results _ i.room (ap passes_open armed) (omega (arith, ap length c.deref.ensures.value, c.load_all.ensures.each, c.load_all.ensures.few, cap))
 
-pub check-requires-2-clause-each : goal.check-requires-2-clause-each
-check-requires-2-clause-each g c = c.load_all.ensures.each ∙ ap (λ (m : MonitorView). row_count m.core) c.monitor-2.ensures
+pub check-requires-clause-each : goal.check-requires-clause-each
+check-requires-clause-each g c = c.load_all.ensures.each ∙ ap (λ (m : MonitorView). row_count m.core) c.monitor-2.ensures
 
 pub invariant_of-self : goal.invariant_of-self
 invariant_of-self g c =
@@ -43,8 +43,8 @@ invariant_of-self g c =
     let i = c.self.invariant in
     let s = c.self.inside in
     let old = s.replaying in
-    let new = c.check-2.new.self in
-    let made = c.check-2.ensures in
+    let new = c.check.new.self in
+    let made = c.check.ensures in
     let loaded = c.load_all.ensures in
     let bits = c.load_all.new.hits.items in
     let pass : ℕ = old.monitor.core.ticks + 1 in
@@ -54,10 +54,10 @@ invariant_of-self g c =
     let size : length bits ≡ row_count old.monitor.core = loaded.each ∙ rows in
     let few : length bits ≤ v.setup.cap = omega (arith, loaded.each, loaded.few, ap (λ (m : MonitorView). m.core.regions.cap) c.monitor-2.ensures, cap_kept _ _ _ i.run.replays) in
     let number : c.ticks-pass.result + 1 ≡ pass = ap (λ t. t + 1) c.ticks-pass.ensures ∙ ap (λ (m : MonitorView). m.core.ticks + 1) c.monitor.ensures in
-    let is = c.check.ensures ∙ (ap (λ n. with_entry (Check n) (with_results c.deref.result.now s.journal)) number ∙ ap (λ l. with_entry (Check pass) (with_results l s.journal)) c.deref.ensures.value) in
-    let more = by_check v s.journal c.check.new.self pass bits (size ∙ ap row_count i.run.replays.stands.same) is in
+    let is = c.check_hits.ensures ∙ (ap (λ n. with_entry (Check n) (with_results c.deref.result.now s.journal)) number ∙ ap (λ l. with_entry (Check pass) (with_results l s.journal)) c.deref.ensures.value) in
+    let more = by_check v s.journal c.check_hits.new.self pass bits (size ∙ ap row_count i.run.replays.stands.same) is in
     let seat = loaded.seat ∙ ap (λ (m : MonitorView). record s.seat { entries = s.seat.entries ++ load_steps (m.core.ticks + 1) m.core.picks bits }) c.monitor-2.ensures in
-    subst (IsMachine v g.N.Named.table g.N.Named.seats s.script.now new c.load_all.new.seat c.check.new.self s.passes) (sym loaded.capacity) (goes_on i (made.entry v s.journal.value i.run.replays) more (record {
+    subst (IsMachine v g.N.Named.table g.N.Named.seats s.script.now new c.load_all.new.seat c.check_hits.new.self s.passes) (sym loaded.capacity) (goes_on i (made.entry v s.journal.value i.run.replays) more (record {
       space = made.space;
       seat_is = seat ∙ loaded_steps s.seat pass bits i.run.replays size;
       cleared = λ armed. absurd (end.not_armed armed);
@@ -69,7 +69,7 @@ invariant_of-self g c =
     }))
 
 pub returns-clause-ended : goal.returns-clause-ended
-returns-clause-ended g c = subst (λ (d : Core). IsBetween d.phase) (invariant_of-self g c).run.replays.stands.same (is_end _ _ c.check-2.ensures.ended).between
+returns-clause-ended g c = subst (λ (d : Core). IsBetween d.phase) (invariant_of-self g c).run.replays.stands.same (is_end _ _ c.check.ensures.ended).between
 
 pub returns-clause-made : goal.returns-clause-made
 returns-clause-made g c = (invariant_of-self g c).room.made ∙ (sym c.self.invariant.room.made ∙ ap passes_made c.self.view_is)

@@ -9,8 +9,8 @@ use Rattle.run_journal.specs.declared.journal.Journal.TheInside.{Inside}
 use Rattle.run_journal.specs.contracts.journal.Journal.{the_view}
 use Rattle.run_journal.specs.Room.{JournalView, with_entry, with_results}
 use Rattle.run_journal.proofs.LoadRuns.{kept_behind, length_kept, loads_fit}
-use Rattle.run_journal.proofs.journal.Journal.check.Goals.{After-push_reserved-2}
-use Rattle.run_journal.proofs.journal.Journal.check.Goals as goal
+use Rattle.run_journal.proofs.journal.Journal.check_hits.Goals.{After-push_reserved-2}
+use Rattle.run_journal.proofs.journal.Journal.check_hits.Goals as goal
 
 -- the results of the check still fit
 fits : (s : Inside) (v : JournalView) (n : ℕ) → s.loaded ≤ length s.loads → the_view s ≡ v → length v.value.bits + n ≤ v.bit_room → s.loaded + n ≤ length s.loads
