@@ -74,16 +74,6 @@ said_more : (n : ℕ) (place : JournalPlace) (line : List ℕ) (lines : List (Li
 said_more n place line [] some = absurd (omega arith)
 said_more n place line (next ∷ more) some = refl
 
--- lines that lead to a place are read, and then what stands after them
-pub said_after : (n : ℕ) (place : JournalPlace) (lines pieces : List (List ℕ)) (next : JournalPlace) → 0 < length pieces → leads_to place lines ≡ Some next
-    → (m : ℕ) × (said_from n place (lines ++ pieces) ≡ said_from m next pieces)
-said_after n place [] pieces next some e = let is : place ≡ next = cc in (n, ap (λ p. said_from n p pieces) is)
-said_after n place (line ∷ lines) pieces next some e =
-    let reached = then_some (line_after place line) (λ p. leads_to p lines) next e in
-    let rest = said_after (n + 1) reached.0 lines pieces next some reached.2 in
-    let more : 0 < length (lines ++ pieces) = omega (arith, some, length-append lines pieces) in
-    (rest.0, said_more n place line (lines ++ pieces) more ∙ ap (λ o. ok_or o n >>= λ p. said_from (n + 1) p (lines ++ pieces)) reached.1 ∙ rest.1)
-
 -- each of the last lines is the one that is wanted
 said_wanted : (n : ℕ) (said : JournalRead) (w : List ℕ) (ws : List (List ℕ)) → said_from n (AtLast said (w ∷ ws)) (w ∷ ws) ≡ Ok said
 said_wanted n said w [] = ap (λ t. if t then Ok said else Err n) (same_line w)
@@ -91,6 +81,16 @@ said_wanted n said w (v ∷ ws) =
     ap (λ t. ok_or (where_so t (AtLast said (v ∷ ws))) n >>= λ p. said_from (n + 1) p (v ∷ ws)) (same_line w) ∙ said_wanted (n + 1) said v ws
 
 -- the last lines are read where they are wanted
-pub said_all : (n : ℕ) (said : JournalRead) (pieces : List (List ℕ)) → 0 < length pieces → said_from n (AtLast said pieces) pieces ≡ Ok said
+said_all : (n : ℕ) (said : JournalRead) (pieces : List (List ℕ)) → 0 < length pieces → said_from n (AtLast said pieces) pieces ≡ Ok said
 said_all n said [] some = absurd (omega arith)
 said_all n said (w ∷ ws) some = said_wanted n said w ws
+
+-- lines that lead to the last ones are read, and then these
+pub said_back : (n : ℕ) (place : JournalPlace) (lines wanted : List (List ℕ)) (said : JournalRead) → 0 < length wanted → leads_to place lines ≡ Some (AtLast said wanted) → said_from n place (lines ++ wanted) ≡ Ok said
+said_back n place [] wanted said some e = let is : place ≡ AtLast said wanted = cc in ap (λ p. said_from n p wanted) is ∙ said_all n said wanted some
+said_back n place (line ∷ lines) wanted said some e =
+    let reached = then_some (line_after place line) (λ p. leads_to p lines) (AtLast said wanted) e in
+    let more : 0 < length (lines ++ wanted) = omega (arith, some, length-append lines wanted) in
+    said_more n place line (lines ++ wanted) more
+    ∙ ap (λ o. ok_or o n >>= λ p. said_from (n + 1) p (lines ++ wanted)) reached.1
+    ∙ said_back (n + 1) reached.0 lines wanted said some reached.2

@@ -12,14 +12,11 @@ use Rattle.run_journal.specs.Replay.{JournalValue}
 use Rattle.journal_text.specs.Spelled.{spelled_seen}
 use Rattle.journal_text.specs.Text.{entries_lines, seen_lines}
 use Rattle.journal_text.specs.TextParts.{entries_left, replay_to, without_first}
-use Rattle.script_lines.proofs.Lemmas.{lines_added, lines_text-append}
+use Rattle.script_lines.proofs.Lemmas.{lines_text-append}
 
 -- lines were appended after others, and other text is left after them
 pub lines_passed : (before text : List ℕ) (a b : List (List ℕ)) (last : List ℕ) → text ≡ before ++ lines_text a → text ++ (lines_text b ++ last) ≡ before ++ (lines_text (a ++ b) ++ last)
-lines_passed before text a b last is =
-    sym (append_assoc text (lines_text b) last)
-    ∙ ap (λ t. t ++ last) (lines_added text before a b is)
-    ∙ append_assoc before (lines_text (a ++ b)) last
+lines_passed before text a b last is = ap (λ t. t ++ (lines_text b ++ last)) is ∙ simp (lines_text-append, append_assoc)
 
 -- what holds of the receipts of all workers holds of those from a worker on
 pub all_from : (P : Receipt → Type 0) (all : List (List Receipt)) (worker : ℕ) → AllByRecursion P (all_of all) → AllByRecursion P (all_of (drop worker all))
@@ -35,10 +32,7 @@ without_none (own ∷ all) = refl
 
 -- a text, lines and what is left after them
 joined : (text : List ℕ) (now more : List (List ℕ)) (last : List ℕ) → text ++ (lines_text (now ++ more) ++ last) ≡ (text ++ lines_text now) ++ (lines_text more ++ last)
-joined text now more last =
-    ap (λ t. text ++ (t ++ last)) (lines_text-append now more)
-    ∙ ap (λ t. text ++ t) (append_assoc (lines_text now) (lines_text more) last)
-    ∙ sym (append_assoc text (lines_text now) (lines_text more ++ last))
+joined text now more last = simp (lines_text-append, append_assoc)
 
 -- of some lines the first were written
 pub front_passed : (text before : List ℕ) (now left more : List (List ℕ)) (last : List ℕ) → text ++ lines_text now ≡ before ++ lines_text left
@@ -49,10 +43,7 @@ front_passed text before now left more last is =
 -- the same with two lists of lines after them
 front_passed_two : (text before : List ℕ) (now left rest more : List (List ℕ)) (last : List ℕ) → text ++ lines_text now ≡ before ++ lines_text left
     → text ++ (lines_text ((now ++ rest) ++ more) ++ last) ≡ before ++ (lines_text ((left ++ rest) ++ more) ++ last)
-front_passed_two text before now left rest more last is =
-    ap (λ ls. text ++ (lines_text ls ++ last)) (append_assoc now rest more)
-    ∙ front_passed text before now left (rest ++ more) last is
-    ∙ ap (λ ls. before ++ (lines_text ls ++ last)) (sym (append_assoc left rest more))
+front_passed_two text before now left rest more last is = simp append_assoc (front_passed text before now left (rest ++ more) last is)
 
 -- all entries were written
 pub entries_done : (v : LiveValue) (j : JournalValue) (at next : ℕ) (text before : List ℕ) → text ++ lines_text (entries_left v j at) ≡ before ++ lines_text (entries_left v j next)

@@ -1,7 +1,8 @@
 -- Plain words, which numbers and addresses are, and lines of such words.
-use Rattle.std.proofs.Common.{◌≡◌, ◌≢◌, ◌^◌, ◌<◌, ◌-◌, ◌∷◌, [], ℕ, Bool, true, false, not, ◌&&◌, ◌==◌, List, ◌++◌, Some, Ok, Err, refl, sym, ap, ◌∙◌, decimal, arith, codes, drop, IsTrue, IsSome}
+use Rattle.std.proofs.Common.{◌≡◌, ◌≢◌, ◌^◌, ◌<◌, ◌-◌, ◌∷◌, [], ℕ, Bool, true, false, not, ◌&&◌, ◌==◌, List, Some, Ok, Err, refl, sym, ap, ◌∙◌, decimal, arith, codes, drop, IsTrue, IsSome}
 use Rattle.std.proofs.lemmas.Bool.Decides.{nat_tests}
 use Rattle.std.proofs.lemmas.List.Elements.{All-weaker}
+use Rattle.std.proofs.lemmas.List.Folds.{list_all-append}
 use Rattle.std.proofs.lemmas.List.Sums.{AllPass-from_list_all, list_all-from_AllPass}
 use Rattle.std.specs.Prelude.{Result, if◌then◌else◌}
 use Rattle.std.specs.Char.{is_ascii_digit}
@@ -37,13 +38,7 @@ is_plain_word word = is_word word && list_all is_word_byte word
 
 -- what passes a test passes a weaker one
 weaker : {X : Type 0} (p q : X → Bool) → ((x : X) → p x ≡ true → q x ≡ true) → (xs : List X) → list_all p xs ≡ true → list_all q xs ≡ true
-weaker p q on [] all = refl
-weaker p q on (x ∷ xs) all = let both = both_are (p x) (list_all p xs) all in both_true (on x both.0) (weaker p q on xs both.1)
-
--- items of two lists that pass a test
-both_pass : {X : Type 0} (p : X → Bool) (xs ys : List X) → list_all p xs ≡ true → list_all p ys ≡ true → list_all p (xs ++ ys) ≡ true
-both_pass p [] ys left right = right
-both_pass p (x ∷ xs) ys left right = let both = both_are (p x) (list_all p xs) left in both_true both.0 (both_pass p xs ys both.1 right)
+weaker p q on xs all = list_all-from_AllPass q xs (All-weaker (λ x. p x ≡ true) (λ x. q x ≡ true) on xs (AllPass-from_list_all p xs all))
 
 -- bytes that all pass a test do not contain a byte that fails it
 lacks : (p : ℕ → Bool) (byte : ℕ) → p byte ≡ false → (bytes : List ℕ) → list_all p bytes ≡ true → IsPiece byte bytes
@@ -100,7 +95,7 @@ pub line_prints : (word : List ℕ) (words : List (List ℕ)) → list_all is_pl
 line_prints word [] plain = word_prints word (both_are (is_plain_word word) true plain).0
 line_prints word (next ∷ words) plain =
     let both = both_are (is_plain_word word) (list_all is_plain_word (next ∷ words)) plain in
-    both_pass is_printable word (32 ∷ joined 32 (next ∷ words)) (word_prints word both.0) (line_prints next words both.1)
+    list_all-append is_printable word (32 ∷ joined 32 (next ∷ words)) ∙ both_true (word_prints word both.0) (line_prints next words both.1)
 
 -- a line of plain words is well formed
 is_plain-spaced : (word : List ℕ) (words : List (List ℕ)) → list_all is_plain_word (word ∷ words) ≡ true → is_plain (joined 32 (word ∷ words)) ≡ true

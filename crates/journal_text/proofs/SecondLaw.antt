@@ -1,5 +1,5 @@
 -- The text of a lawful journal is read.
-use Rattle.std.proofs.Common.{◌≡◌, ℕ, zero, ◌^◌, ◌<◌, ◌&&◌, Bool, List, [], ◌∷◌, ◌++◌, codes, Some, refl, sym, ap, ◌∙◌, subst, arith}
+use Rattle.std.proofs.Common.{◌≡◌, ℕ, zero, ◌^◌, ◌<◌, ◌&&◌, Bool, List, [], ◌∷◌, ◌++◌, codes, Some, Ok, refl, sym, ap, ◌∙◌, subst, arith}
 use Rattle.std.proofs.lemmas.List.{map-append}
 use Rattle.std.proofs.lemmas.List.Elements.{Contains-append_left, Contains-append_right}
 use Rattle.std.specs.Prelude.{option_map}
@@ -37,7 +37,7 @@ use Rattle.journal_text.proofs.AllRead.{journal_read, no_calls}
 use Rattle.journal_text.proofs.Common.{Pieces, both_pieces, or_first, then_some}
 use Rattle.journal_text.proofs.EntriesRead.{so_far}
 use Rattle.journal_text.proofs.HeadRead.{head_read}
-use Rattle.journal_text.proofs.Leading.{found, leads_by, leads_to, said_after, said_all}
+use Rattle.journal_text.proofs.Leading.{found, leads_by, leads_to, said_back}
 use Rattle.journal_text.proofs.SeenRead.{IsRead, PlacesFit, workers_seen}
 use Rattle.journal_text.proofs.SeenSay.{HaveReceipts, hits_decide, padded_all}
 
@@ -92,17 +92,16 @@ leads-both place next (line ∷ a) b lead =
     leads_by place reached.0 line (a ++ b) reached.1 ∙ leads-both reached.0 next a b reached.2
 
 -- the parts of the text are the lines of the head as it was written, the other lines and the parts of the last ones
-text_parts : (v : LiveValue) (j : JournalValue) (all : List (List Receipt)) (front : List (List ℕ)) → lines_text front ≡ lines_text (head_lines v.seed v.setup) → Pieces front → Pieces (body_lines v j all)
-    → parts 10 (journal_text v j all) ≡ (front ++ body_lines v j all) ++ parts 10 (last_text (replay v j).state)
-text_parts v j all front same first body =
+text_parts : (v : LiveValue) (j : JournalValue) (all : List (List Receipt)) (front : List (List ℕ)) (last : List ℕ) → lines_text front ≡ lines_text (head_lines v.seed v.setup) → Pieces front → Pieces (body_lines v j all)
+    → last ≡ last_text (replay v j).state → parts 10 (journal_text v j all) ≡ (front ++ body_lines v j all) ++ parts 10 last
+text_parts v j all front last same first body ends =
     let lines = body_lines v j all in
-    let text = last_text (replay v j).state in
     let whole : lines_text (settled_lines v j all) ≡ lines_text (front ++ lines) =
     lines_text-append (head_lines v.seed v.setup) lines
     ∙ ap (λ t. t ++ lines_text lines) (sym same)
     ∙ sym (lines_text-append front lines)
     in
-    ap (λ t. parts 10 (t ++ text)) whole ∙ parts_before (front ++ lines) text (both_pieces front lines first body)
+    (λ i. parts 10 (whole i ++ sym ends i)) ∙ parts_before (front ++ lines) last (both_pieces front lines first body)
 
 -- the text of a lawful journal is read as that journal
 pub second_law : (v : LiveValue) (j : JournalValue) (all : List (List Receipt)) → IsLawful v j all → IsSpellable v j all → PlacesFit v.setup.space → Pieces (body_lines v j all) → IsReadBack v j all
@@ -133,13 +132,10 @@ second_law v j all lawful can places pieces =
     ∙ seen.leads settled
     ∙ leads_by (InReceipts w j seen.behind) (AtLast said wanted) (codes "settled") [] ends
     in
-    let reach = said_after 1 (InHead AtHeader) (head.lines ++ lines) wanted (AtLast said wanted) some lead in
+    let apart = text_parts v j all head.lines (last_text (replay w j).state) head.text head.pieces pieces (ap last_text entries.state) in
     record {
       said = said;
-      read =
-          ap (said_from 1 (InHead AtHeader)) (text_parts v j all head.lines head.text head.pieces pieces ∙ ap (λ t. (head.lines ++ lines) ++ parts 10 t) (sym (ap last_text entries.state)))
-          ∙ reach.1
-          ∙ said_all reach.0 said wanted some;
+      read = subst (λ ps. said_from 1 (InHead AtHeader) ps ≡ Ok said) (sym apart) (said_back 1 (InHead AtHeader) (head.lines ++ lines) wanted said some lead);
       seed = refl;
       setup = refl;
       journal = refl;
