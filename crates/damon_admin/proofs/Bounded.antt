@@ -1,14 +1,14 @@
 -- What the monitor of a context stands for.
-use Rattle.std.proofs.Common.{◌≡◌, ℕ, List, [], ◌∷◌, ◌++◌, sym, ap, ◌∙◌, subst, arith, append-nil, take, drop, Bool, false, Some, None}
+use Rattle.std.proofs.Common.{◌≡◌, ℕ, List, [], ◌++◌, sym, ap, ◌∙◌, subst, arith, append-nil, take, drop, Bool, false, Some, None}
 use Rattle.std.specs.Borrow.{Bor}
 use Rattle.std.specs.Prelude.{IfSome, Option, slice_get}
-use Rattle.std.specs.List.{AllByRecursion}
 use Rattle.std.proofs.lemmas.List.Sums.{sum_by-append}
 use Rattle.std.proofs.lemmas.List.{take-append-drop}
 use Rattle.rand_core.specs.Steps.{stream_of, steps_u32}
 use Rattle.rand_pcg.specs.Lcg.{Lcg}
 use Rattle.rand_pcg.specs.Pcg.{pcg32}
 use Rattle.damon_types.specs.Space.{pages_of}
+use Rattle.damon_types.proofs.Lemmas.{all_parts}
 use Rattle.script_lines.specs.Command.{CommandValue, weight, work_of}
 use Rattle.script_lines.specs.Limits.{AreCommandsWithin, IsCommandWithin}
 use Rattle.snapshot_print.specs.declared.form.Form.TheVariants.{Text}
@@ -34,17 +34,13 @@ use Rattle.damon_admin.proofs.Contexts.{lines_of-append, pieces_of}
 use Rattle.damon_admin.proofs.Places.{first_commands, place_from-append, script_leads}
 use Rattle.damon_admin.proofs.Words.{bind-Ok}
 
-first_all : {X : Type 0} (P : X → Type 0) (xs ys : List X) → AllByRecursion P (xs ++ ys) → AllByRecursion P xs
-first_all P [] ys all = tt
-first_all P (x ∷ xs) ys all = (all.0, first_all P xs ys all.1)
-
 -- the first commands of a script within its limits are one
 sound_first : (s : ScriptValue) (cs rest : List CommandValue) → IsSound s → s.commands ≡ cs ++ rest → IsSound (up_to s cs)
 sound_first s cs rest sound is = record {
   space = sound.space;
   setup = sound.setup;
   order = sound.order;
-  commands = first_all (IsCommandWithin (pages_of s.setup.space)) cs rest (subst (AreCommandsWithin (pages_of s.setup.space)) is sound.commands);
+  commands = (all_parts (IsCommandWithin (pages_of s.setup.space)) cs rest (subst (AreCommandsWithin (pages_of s.setup.space)) is sound.commands)).0;
   work = omega (arith, sound.work, ap (work_of s.setup.cap) is, sum_by-append (weight s.setup.cap) cs rest);
 }
 

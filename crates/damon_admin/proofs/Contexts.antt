@@ -1,9 +1,10 @@
 -- The lines of each context, and the contexts that do them.
-use Rattle.std.proofs.Common.{◌≡◌, ◌≢◌, ℕ, zero, suc, ◌+◌, ◌≤◌, ◌==◌, Bool, true, false, cond, List, [], ◌∷◌, ◌++◌, length, drop, take, map, Some, Ok, Err, refl, sym, ap, ◌∙◌, subst, arith, All, add-one, append-nil}
+use Rattle.std.proofs.Common.{◌≡◌, ◌≢◌, ℕ, zero, suc, ◌+◌, ◌≤◌, ◌==◌, Bool, true, false, cond, List, [], ◌∷◌, ◌++◌, length, drop, take, map, Some, Ok, Err, refl, sym, ap, ◌∙◌, subst, arith, All, append-nil}
 use Rattle.std.specs.Prelude.{Result, slice_get}
 use Rattle.std.specs.List.{AllByRecursion, filter}
 use Rattle.std.proofs.lemmas.Bool.Decides.{nat_tests}
-use Rattle.std.proofs.lemmas.List.{map-append, take-append-drop}
+use Rattle.std.proofs.lemmas.List.{drop-drop, map-append, take-append-drop}
+use Rattle.std.proofs.Math.Seq.{take-add}
 use Rattle.std.proofs.lemmas.List.Elements.{All-from_recursion, All-tail, filter-append, recursion_from_All}
 use Rattle.line_text.specs.Parts.{IsPiece, parts}
 use Rattle.line_text.proofs.Lemmas.{parts_clean}
@@ -11,7 +12,6 @@ use Rattle.script_lines.specs.declared.kind.ScriptKind.{ScriptKind}
 use Rattle.script_lines.specs.declared.kind.ScriptKind.TheVariants.{Header}
 use Rattle.script_lines.specs.Refusal.{◌>>=◌, only_if}
 use Rattle.script_lines.specs.Words.{same_word}
-use Rattle.damon_control.specs.declared.fault.ScriptFault.{ScriptFault}
 use Rattle.damon_control.specs.Script.{at}
 use Rattle.damon_admin.specs.declared.context.Context.{Context}
 use Rattle.damon_admin.specs.declared.context.Context.TheVariants.{Faulty, Running}
@@ -20,7 +20,7 @@ use Rattle.damon_admin.specs.declared.lines.TakenLine.{TakenLine}
 use Rattle.damon_admin.specs.Kept.{AreGathered, AreOpened, IsAdmin, IsContext, IsNext, IsOfKind, IsOpened, IsTaken, line_value}
 use Rattle.damon_admin.specs.Lines.{ContextLine, context_line, header, lines_of, lines_said, split, split_from}
 use Rattle.damon_admin.proofs.Taking.{context_line-Ok}
-use Rattle.damon_admin.proofs.Words.{bind-Ok}
+use Rattle.damon_admin.proofs.Words.{at-Ok, bind-Ok}
 
 -- ---- the lines of a context
 
@@ -58,18 +58,13 @@ split_whole n [] lines pieces e = let it : [] ≡ lines = cc e in subst (AllByRe
 split_whole n ([] ∷ []) lines pieces e = let it : [] ≡ lines = cc e in subst (AllByRecursion IsWhole) it tt
 split_whole n ((b ∷ bs) ∷ []) lines pieces e = absurd cc
 split_whole n (line ∷ next ∷ more) lines pieces e =
-    let first = read_first n (context_line line) _ lines e in
+    let first = at-Ok n (context_line line) _ lines e in
     let others = bind-Ok (split_from (n + 1) (next ∷ more)) (λ xs. Ok (first.0 ∷ xs)) lines first.2 in
     let it : first.0 ∷ others.0 ≡ lines = cc others.2 in
     let is = context_line-Ok line first.0 first.1 in
     let whole : IsPiece 10 ((48 + first.0.context) ∷ 32 ∷ first.0.line) = subst (IsPiece 10) is.is pieces.0 in
     let tail = All-tail (λ c. c ≢ 10) 32 first.0.line (All-tail (λ c. c ≢ 10) (48 + first.0.context) (32 ∷ first.0.line) whole) in
     subst (AllByRecursion IsWhole) it (tail, split_whole (n + 1) (next ∷ more) others.0 pieces.1 others.1)
-  where
-    read_first : (n : ℕ) (r : Result ContextLine ScriptKind) (f : ContextLine → Result (List ContextLine) ScriptFault) (y : List ContextLine) → (at n r >>= f) ≡ Ok y
-        → (x : ContextLine) × (r ≡ Ok x) × (f x ≡ Ok y)
-    read_first n (Ok x) f y e = (x, refl, e)
-    read_first n (Err kind) f y e = absurd cc
 
 whole_lines : (ls : List (List ℕ)) (lines : List ContextLine) → AllByRecursion (IsPiece 10) ls → split ls ≡ Ok lines → AllByRecursion IsWhole lines
 whole_lines [] lines pieces e = absurd cc
@@ -161,18 +156,6 @@ admin_new input at lines gs xs said header inside gathered opened = record {
 
 -- ---- the next line
 
-dropped : (n : ℕ) (xs : List ContextLine) (l : ContextLine) (others : List ContextLine) → drop n xs ≡ l ∷ others → drop (suc n) xs ≡ others
-dropped zero [] l others e = absurd cc
-dropped zero (x ∷ xs) l others e = let it : xs ≡ others = cc e in it
-dropped (suc n) [] l others e = absurd cc
-dropped (suc n) (x ∷ xs) l others e = dropped n xs l others e
-
-taken : (n : ℕ) (xs : List ContextLine) (l : ContextLine) (others : List ContextLine) → drop n xs ≡ l ∷ others → take (suc n) xs ≡ take n xs ++ l ∷ []
-taken zero [] l others e = absurd cc
-taken zero (x ∷ xs) l others e = let it : x ≡ l = cc e in ap (λ y. y ∷ []) it
-taken (suc n) [] l others e = absurd cc
-taken (suc n) (x ∷ xs) l others e = ap (λ ys. x ∷ ys) (taken n xs l others e)
-
 -- the next line, and the lines after it
 pub record NextLine (input : List ℕ) (lines : List ContextLine) (at done : ℕ) (t : TakenLine) : Type 0 where
   pub others : List ContextLine
@@ -189,12 +172,12 @@ next_line input lines at done t here is =
     let rest = drop t.used (drop at input) in
     let read = bind-Ok (split_from 1 (parts 10 rest)) (λ others. Ok (l ∷ others)) (drop done lines) (sym is.splits ∙ here 0) in
     let first : drop done lines ≡ l ∷ read.0 = sym (cc read.2) in
-    let left : drop (done + 1) lines ≡ read.0 = ap (λ n. drop n lines) (add-one done) ∙ dropped done lines l read.0 first in
+    let left : drop (done + 1) lines ≡ read.0 = sym (drop-drop 1 done lines) ∙ ap (drop 1) first in
     record {
       others = read.0;
       here = first;
       left = left;
-      so_far = ap (λ n. take n lines) (add-one done) ∙ taken done lines l read.0 first;
+      so_far = take-add done 1 lines ∙ ap (λ ls. take done lines ++ take 1 ls) first;
       there = λ n. split_any 1 n (parts 10 rest) read.0 read.1 ∙ ap (λ ls. Ok ls) (sym left);
       all = sym (take-append-drop done lines) ∙ ap (λ ls. take done lines ++ ls) first;
     }

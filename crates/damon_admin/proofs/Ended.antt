@@ -65,17 +65,17 @@ parts_seam (c ∷ cs) rest =
     by true = refl
     by false = onto-append c (parts 10 cs) (parts 10 rest) (parts_some 10 cs)
 
+pub first_kept : (p : List ℕ) (ps : List (List ℕ)) → 0 < length ps → all_but_last (p ∷ ps) ≡ p ∷ all_but_last ps
+first_kept p [] none = absurd (omega arith)
+first_kept p (q ∷ qs) more = refl
+
 all_but_last-append : (ps qs : List (List ℕ)) → 0 < length qs → all_but_last (ps ++ qs) ≡ ps ++ all_but_last qs
 all_but_last-append [] qs some = refl
-all_but_last-append (p ∷ ps) qs some = first (ps ++ qs) (longer ps) ∙ ap (λ ls. p ∷ ls) (all_but_last-append ps qs some)
+all_but_last-append (p ∷ ps) qs some = first_kept p (ps ++ qs) (longer ps) ∙ ap (λ ls. p ∷ ls) (all_but_last-append ps qs some)
   where
     longer : (ls : List (List ℕ)) → 0 < length (ls ++ qs)
     longer [] = some
     longer (l ∷ ls) = omega arith
-
-    first : (ls : List (List ℕ)) → 0 < length ls → all_but_last (p ∷ ls) ≡ p ∷ all_but_last ls
-    first [] none = absurd (omega arith)
-    first (l ∷ ls) more = refl
 
 -- the lines of a text that ends with an LF, and of what follows it
 pub lines_in-after : (front rest : List ℕ) → lines_in (front ++ 10 ∷ rest) ≡ parts 10 front ++ lines_in rest

@@ -14,18 +14,9 @@ use Rattle.damon_admin.specs.Written.{line_text}
 use Rattle.damon_admin.proofs.Contexts.{NextLine, next_line, next_own, other_more, own_more}
 use Rattle.damon_admin.proofs.Puts.{put_at}
 
-drop_more : (at used : ℕ) (input : List ℕ) → drop used (drop at input) ≡ drop (at + used) input
-drop_more at used input = drop-drop used at input
-
 module _ (input : List ℕ) (at done : ℕ) (xs : List Context) (t : TakenLine) (is : IsAdmin input at done false xs) (taken : IsTaken 0 (drop at input) t) where
   next : NextLine input is.lines at done t
   next = next_line input is.lines at done t is.here taken
-
-  own : List (List ℕ)
-  own = lines_of t.own.context is.lines
-
-  before : List (List ℕ)
-  before = lines_of t.own.context (take done is.lines)
 
   its_next : IsNext (lines_of t.own.context is.lines) (lines_of t.own.context (take done is.lines)) t.own.line.now
   its_next = next_own input is.lines at done t next is.pieces
@@ -40,7 +31,7 @@ module _ (input : List ℕ) (at done : ℕ) (xs : List Context) (t : TakenLine) 
   went_on ys text goes kinds = record {
     lines = is.lines;
     said = is.said;
-    here = λ n. ap (λ b. split_from n (parts 10 b)) (sym (drop_more at t.used input)) ∙ next.there n;
+    here = λ n. ap (λ b. split_from n (parts 10 b)) (sym (drop-drop t.used at input)) ∙ next.there n;
     inside = omega (arith, taken.inside, length-drop at input, is.inside);
     few = omega (arith, is.few, taken.room);
     eight = kinds.size ∙ is.eight;

@@ -9,13 +9,12 @@ use Rattle.script_lines.specs.declared.kind.ScriptKind.{ScriptKind}
 use Rattle.script_lines.specs.Command.{CommandValue}
 use Rattle.script_lines.specs.Lines.{lines_text}
 use Rattle.script_lines.specs.Refusal.{◌>>=◌}
-use Rattle.damon_control.specs.declared.fault.ScriptFault.{ScriptFault}
 use Rattle.damon_control.specs.declared.grammar.Grammar.TheVariants.{OfScript}
 use Rattle.damon_control.specs.Script.{AtAttrs, AtCap, AtEnd, AtHeader, AtRanges, AtSchemes, AtSeed, AtTargets, AtUnit, InBody, InCommit, Place, ScriptValue, at, at_text_end, place_after, reads, script_of}
 use Rattle.damon_admin.specs.Stage.{completes, stage_of}
 use Rattle.damon_admin.specs.Written.{commands_at, place_from, place_of}
 use Rattle.damon_admin.proofs.Steps.{IsSaid, StepsTo, steps_to}
-use Rattle.damon_admin.proofs.Words.{bind-Ok}
+use Rattle.damon_admin.proofs.Words.{at-Ok, bind-Ok}
 
 -- ---- a text of lines
 
@@ -30,12 +29,6 @@ parts_of_lines [] pieces = refl
 parts_of_lines (line ∷ lines) pieces =
     parts_first line (lines_text lines) (All-head (IsPiece 10) line lines pieces)
     ∙ ap (λ ls. line ∷ ls) (parts_of_lines lines (All-tail (IsPiece 10) line lines pieces))
-
--- a step that is read as a line of a text
-read_step : {A B : Type 0} (n : ℕ) (r : Result A ScriptKind) (f : A → Result B ScriptFault) (y : B) → (at n r >>= f) ≡ Ok y
-    → (x : A) × (r ≡ Ok x) × (f x ≡ Ok y)
-read_step n (Ok x) f y e = (x, refl, e)
-read_step n (Err kind) f y e = absurd cc
 
 -- lines that end with the last LF, where a script is said
 ended_at : (n : ℕ) (place : Place OfScript) (s : ScriptValue) → at_text_end OfScript n place [] ≡ Ok s → ◌≡◌ {A = Result (Place OfScript) ScriptKind} (Ok place) (Ok (AtEnd s))
@@ -65,7 +58,7 @@ pub reads_lead : (n : ℕ) (place : Place OfScript) (lines : List (List ℕ)) (s
     → place_from place lines ≡ Ok (AtEnd s)
 reads_lead n place [] s e = ended_at n place s e
 reads_lead n place (line ∷ lines) s e =
-    let read = read_step n (place_after OfScript place line) (λ next. reads OfScript (n + 1) next (lines ++ [] ∷ [])) s
+    let read = at-Ok n (place_after OfScript place line) (λ next. reads OfScript (n + 1) next (lines ++ [] ∷ [])) s
     (sym (first_read n place line (lines ++ [] ∷ []) (some_lines lines)) ∙ e) in
     ap (λ r. r >>= λ next. place_from next lines) read.1 ∙ reads_lead (n + 1) read.0 lines s read.2
 

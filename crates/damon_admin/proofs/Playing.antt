@@ -1,5 +1,5 @@
 -- A context that does its next line.
-use Rattle.std.proofs.Common.{◌≡◌, ◌≢◌, ℕ, ◌+◌, ◌-◌, Bool, true, false, List, [], ◌∷◌, ◌++◌, length, drop, Ok, refl, sym, ap, ◌∙◌, subst, arith, length-append, append-nil, append_assoc}
+use Rattle.std.proofs.Common.{◌≡◌, ◌≢◌, ℕ, ◌+◌, ◌-◌, Bool, true, false, List, [], ◌∷◌, ◌++◌, length, drop, Ok, refl, sym, ap, ◌∙◌, subst, arith, length-append, append-nil, append_assoc, ◌⊎◌, inl, inr}
 use Rattle.std.proofs.lemmas.List.{append_cancel_left, length-map}
 use Rattle.std.proofs.Math.Seq.{drop-append_seam}
 use Rattle.rand_core.specs.Stream.{Stream}
@@ -28,52 +28,41 @@ use Rattle.damon_admin.proofs.Steps.{IsSaid}
 
 -- ---- what a script has written
 
--- the text of the commands so far, at each place where a line is accepted
-pub text_before : (s : ScriptValue) (place next : Place OfScript) (line : List ℕ) → place_after OfScript place line ≡ Ok next
-    → written_at s place ≡ commands_text as_text (up_to s (commands_at place))
-text_before s AtHeader next line e = refl
-text_before s (AtSeed version) next line e = refl
-text_before s (AtUnit version seed) next line e = refl
-text_before s (AtCap version seed unit) next line e = refl
-text_before s (AtAttrs version seed unit cap) next line e = refl
-text_before s (AtTargets f targets) next line e = refl
-text_before s (AtRanges f targets ranges) next line e = refl
-text_before s (AtSchemes f targets ranges slots) next line e = refl
-text_before s (InBody b) next line e = refl
-text_before s (InCommit b commit) next line e = refl
-text_before s (AtEnd t) next line e = absurd cc
-
--- the same at each place but the end
-pub text_amid : (s : ScriptValue) (place : Place OfScript) → stage_of place ≢ stage.End → written_at s place ≡ commands_text as_text (up_to s (commands_at place))
-text_amid s AtHeader e = refl
-text_amid s (AtSeed version) e = refl
-text_amid s (AtUnit version seed) e = refl
-text_amid s (AtCap version seed unit) e = refl
-text_amid s (AtAttrs version seed unit cap) e = refl
-text_amid s (AtTargets f targets) e = refl
-text_amid s (AtRanges f targets ranges) e = refl
-text_amid s (AtSchemes f targets ranges slots) e = refl
-text_amid s (InBody b) e = refl
-text_amid s (InCommit b commit) e = refl
-text_amid s (AtEnd t) e = absurd (e refl)
-
 -- a place at the end
 pub record IsAtEnd (place : Place OfScript) : Type 0 where
   pub said : ScriptValue
   pub is : place ≡ AtEnd said
 
-pub at_end : (place : Place OfScript) → stage_of place ≡ stage.End → IsAtEnd place
-at_end AtHeader e = absurd cc
-at_end (AtSeed version) e = absurd cc
-at_end (AtUnit version seed) e = absurd cc
-at_end (AtCap version seed unit) e = absurd cc
-at_end (AtAttrs version seed unit cap) e = absurd cc
-at_end (AtTargets f targets) e = absurd cc
-at_end (AtRanges f targets ranges) e = absurd cc
-at_end (AtSchemes f targets ranges slots) e = absurd cc
-at_end (InBody b) e = absurd cc
-at_end (InCommit b commit) e = absurd cc
-at_end (AtEnd t) e = record { said = t; is = refl }
+-- a place is the end, or the text of the commands so far is written there
+pub end_or_amid : (s : ScriptValue) (place : Place OfScript)
+    → IsAtEnd place ⊎ ((stage_of place ≢ stage.End) × (written_at s place ≡ commands_text as_text (up_to s (commands_at place))))
+end_or_amid s AtHeader = inr ((λ e. cc e), refl)
+end_or_amid s (AtSeed version) = inr ((λ e. cc e), refl)
+end_or_amid s (AtUnit version seed) = inr ((λ e. cc e), refl)
+end_or_amid s (AtCap version seed unit) = inr ((λ e. cc e), refl)
+end_or_amid s (AtAttrs version seed unit cap) = inr ((λ e. cc e), refl)
+end_or_amid s (AtTargets f targets) = inr ((λ e. cc e), refl)
+end_or_amid s (AtRanges f targets ranges) = inr ((λ e. cc e), refl)
+end_or_amid s (AtSchemes f targets ranges slots) = inr ((λ e. cc e), refl)
+end_or_amid s (InBody b) = inr ((λ e. cc e), refl)
+end_or_amid s (InCommit b commit) = inr ((λ e. cc e), refl)
+end_or_amid s (AtEnd t) = inl (record { said = t; is = refl })
+
+-- it is not the end where a line is accepted, or where the script is not over
+pub text_before : (s : ScriptValue) (place next : Place OfScript) (line : List ℕ) → place_after OfScript place line ≡ Ok next
+    → written_at s place ≡ commands_text as_text (up_to s (commands_at place))
+text_before s place next line e =
+    elim (end_or_amid s place) as (λ o. written_at s place ≡ commands_text as_text (up_to s (commands_at place))) [
+      | inl it ↦ absurd (cc (ap (λ p. place_after OfScript p line) (sym it.is) ∙ e))
+      | inr amid ↦ amid.1
+    ]
+
+text_amid : (s : ScriptValue) (place : Place OfScript) → stage_of place ≢ stage.End → written_at s place ≡ commands_text as_text (up_to s (commands_at place))
+text_amid s place e =
+    elim (end_or_amid s place) as (λ o. written_at s place ≡ commands_text as_text (up_to s (commands_at place))) [
+      | inl it ↦ absurd (e (ap stage_of it.is))
+      | inr amid ↦ amid.1
+    ]
 
 pub written_is : (own done : List (List ℕ)) (s : ScriptValue) (place : Place OfScript) → script_of (lines_text own) ≡ Ok s → place_of done ≡ Ok place
     → written own done ≡ written_at s place
@@ -216,7 +205,7 @@ module _ (own done : List (List ℕ)) (line : List ℕ) (player : PlayerView Lcg
   last new text none ends same writes =
       let s = running.script in
       let there = kept (said_as false none) in
-      let it = at_end step.next (stage_is ∙ ends) in
+      let it : IsAtEnd step.next = elim (end_or_amid s step.next) as (λ o. IsAtEnd step.next) [ inl is ↦ is | inr amid ↦ absurd (amid.0 (stage_is ∙ ends)) ] in
       let all : it.said ≡ s = end_is_last it.said step.later s (subst (λ q. place_from q step.later ≡ Ok (AtEnd s)) it.is step.end) in
       let every : commands_at step.next ≡ s.commands = ap commands_at it.is ∙ ap (λ (t : ScriptValue). t.commands) all in
       let played = subst (λ cs. HasPlayed words s Text cs player running.text) every (same_played (said_as false none)) in (
@@ -251,5 +240,3 @@ runs_as own done line player now next running b after x whole to empty new text 
     let three = subst (λ t. Plays t (stage_after now line) player new [] text) whole two in
     let made = runs own done line player now next running new text three in
     (subst (λ a. IsRunning own (done ++ line ∷ []) new a) (sym to) made.0, made.1)
-
--- ---- the next line of a context whose lines are no script

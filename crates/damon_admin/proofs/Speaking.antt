@@ -1,14 +1,11 @@
 -- A text that a context says, line by line.
-use Rattle.std.proofs.Common.{◌≡◌, ℕ, ◌+◌, ◌<◌, List, [], ◌∷◌, ◌++◌, length, map, refl, sym, ap, subst, ◌∙◌, arith, append_assoc}
+use Rattle.std.proofs.Common.{◌≡◌, ℕ, ◌+◌, List, [], ◌∷◌, ◌++◌, map, sym, ap, subst, ◌∙◌, append_assoc}
 use Rattle.line_text.specs.Appended.{KeepsFront}
 use Rattle.line_text.specs.Parts.{parts}
 use Rattle.line_text.proofs.Lemmas.{keeps-append, keeps_through, parts_some}
 use Rattle.script_lines.specs.Lines.{lines_text}
 use Rattle.damon_admin.specs.Voice.{all_but_last, spoken, spoken_line}
-
-first_kept : (p : List ℕ) (ps : List (List ℕ)) → 0 < length ps → all_but_last (p ∷ ps) ≡ p ∷ all_but_last ps
-first_kept p [] none = absurd (omega arith)
-first_kept p (q ∷ qs) more = refl
+use Rattle.damon_admin.proofs.Ended.{first_kept}
 
 -- the first line, and those after it
 pub spoken_first : (c : ℕ) (text line rest : List ℕ) → parts 10 text ≡ line ∷ parts 10 rest → spoken c text ≡ (48 + c) ∷ 32 ∷ (line ++ 10 ∷ spoken c rest)

@@ -1,10 +1,9 @@
 -- A line that is taken from the front of a text.
-use Rattle.std.proofs.Common.{◌≡◌, ℕ, ◌+◌, ◌-◌, ◌<◌, ◌≤◌, ◌==◌, ◌&&◌, Bool, true, false, List, [], ◌∷◌, ◌++◌, length, drop, Ok, Err, refl, sym, ap, ◌∙◌, arith}
+use Rattle.std.proofs.Common.{◌≡◌, ℕ, ◌+◌, ◌-◌, ◌<◌, ◌≤◌, ◌==◌, ◌&&◌, Bool, true, false, List, [], ◌∷◌, ◌++◌, length, drop, Ok, Err, refl, sym, ap, ◌∙◌, arith, append_assoc, length-append}
 use Rattle.std.specs.Prelude.{Result}
 use Rattle.std.proofs.Math.Seq.{drop-append-add}
 use Rattle.std.proofs.lemmas.List.Splits.{join_with_byte-slice_split}
 use Rattle.std.proofs.lemmas.Bool.Decides.{nat_tests}
-use Rattle.std.proofs.Common.{length-append}
 use Rattle.std.specs.List.{join_with_byte}
 use Rattle.line_text.specs.Parts.{parts}
 use Rattle.line_text.proofs.Lemmas.{parts_some}
@@ -120,8 +119,4 @@ context_line-Ok (digit ∷ space ∷ own) l e =
 pub then_more : (r : Result (List ContextLine) ScriptFault) (before : List ContextLine) (l : ContextLine)
     → ((r >>= λ others. Ok (l ∷ others)) >>= λ left. Ok (before ++ left)) ≡ (r >>= λ left. Ok ((before ++ l ∷ []) ++ left))
 then_more (Err fault) before l = refl
-then_more (Ok others) before l = ap (λ ls. Ok ls) (append_assoc_line before others)
-  where
-    append_assoc_line : (xs ys : List ContextLine) → xs ++ l ∷ ys ≡ (xs ++ l ∷ []) ++ ys
-    append_assoc_line [] ys = refl
-    append_assoc_line (x ∷ xs) ys = ap (λ zs. x ∷ zs) (append_assoc_line xs ys)
+then_more (Ok others) before l = ap (λ ls. Ok ls) (sym (append_assoc before (l ∷ []) others))

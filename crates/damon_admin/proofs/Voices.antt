@@ -1,6 +1,6 @@
 -- The voice of each context in the output.
-use Rattle.std.proofs.Common.{◌≡◌, ◌≢◌, ℕ, ◌+◌, ◌<◌, ◌==◌, ◌&&◌, Bool, true, false, cond, List, [], ◌∷◌, ◌++◌, length, drop, map, codes, Ok, Err, refl, sym, ap, ◌∙◌, subst, arith, All, append_assoc, append-nil, length-append, ◌⊎◌, inl, inr}
-use Rattle.std.specs.Prelude.{Result, if◌then◌else◌}
+use Rattle.std.proofs.Common.{◌≡◌, ◌≢◌, ℕ, ◌+◌, ◌<◌, ◌==◌, ◌&&◌, Bool, true, false, cond, List, [], ◌∷◌, ◌++◌, length, drop, map, codes, Ok, Err, refl, sym, ap, ◌∙◌, subst, subst₂, arith, All, append_assoc, append-nil, length-append, ◌⊎◌, inl, inr}
+use Rattle.std.specs.Prelude.{if◌then◌else◌}
 use Rattle.std.specs.List.{AllByRecursion, filter}
 use Rattle.std.specs.Fmt.{decimal}
 use Rattle.std.proofs.lemmas.Bool.Decides.{nat_tests}
@@ -35,18 +35,14 @@ use Rattle.damon_admin.specs.Voice.{all_but_last, is_of, lines_in, spoken, spoke
 use Rattle.damon_admin.specs.Written.{all_written, commands_at, fault_line, gained, line_text, output_of, place_from, place_of, texts_from, told, written, written_as, written_at, written_where}
 use Rattle.script_lines.proofs.Lemmas.{lines_text-append}
 use Rattle.damon_admin.proofs.Contexts.{lines_of-append, lines_of-own, other_more, own_more, pieces_of}
-use Rattle.damon_admin.proofs.Ended.{IsEnded, line_ended, lines_text-lines_in, none_ended}
+use Rattle.damon_admin.proofs.Ended.{IsEnded, first_kept, line_ended, lines_text-lines_in, none_ended}
 use Rattle.damon_admin.proofs.Places.{NextPlace, end_is_last, next_place, parts_first, place_from-append, script_leads}
-use Rattle.damon_admin.proofs.Playing.{at_end, text_amid, text_before, written_is}
+use Rattle.damon_admin.proofs.Playing.{IsAtEnd, end_or_amid, text_before}
 use Rattle.damon_admin.proofs.Reports.{end_ended, events_ended}
 use Rattle.damon_admin.proofs.Steps.{IsSaid}
 use Rattle.damon_admin.proofs.Words.{bind-Ok}
 
 -- ---- a text that a context says, in the output
-
-first_kept : (p : List ℕ) (ps : List (List ℕ)) → 0 < length ps → all_but_last (p ∷ ps) ≡ p ∷ all_but_last ps
-first_kept p [] none = absurd (omega arith)
-first_kept p (q ∷ qs) more = refl
 
 -- lines without an LF before another text
 lines_before : (ls : List (List ℕ)) (rest : List ℕ) → AllByRecursion (IsPiece 10) ls → lines_in (lines_text ls ++ rest) ≡ ls ++ lines_in rest
@@ -168,69 +164,56 @@ end_said a b old new ends said = by a (subst (λ x. IsSaid (completes a x) old n
     by stage.Commit said = said
     by stage.End said = said
 
--- where a script is at its end, or is not
-end_or_amid : (a : Stage) → (a ≡ stage.End) ⊎ (a ≢ stage.End)
-end_or_amid stage.Setup = inr (λ e. cc e)
-end_or_amid stage.Body = inr (λ e. cc e)
-end_or_amid stage.Commit = inr (λ e. cc e)
-end_or_amid stage.End = inl refl
-
 script_adds : (own done : List (List ℕ)) (line : List ℕ) (s : ScriptValue) → IsNext own done line → script_of (lines_text own) ≡ Ok s
-    → Adds (written own done) (written own (done ++ line ∷ []))
+    → Adds (written_as own done (Ok s)) (written_as own (done ++ line ∷ []) (Ok s))
 script_adds own done line s next said =
     let led = script_leads own s next.pieces said in
     let so_far = bind-Ok (place_of done) (λ p. place_from p (line ∷ next.later)) (AtEnd s)
     (sym (place_from-append AtHeader done (line ∷ next.later)) ∙ ap place_of (sym next.all) ∙ led) in
     let place = so_far.0 in
     let step = next_place own done next.later line s place next.pieces next.all said so_far.1 in
-    let before = written_is own done s place said so_far.1 ∙ text_before s place step.next line step.accepted in
-    let after = written_is own (done ++ line ∷ []) s step.next said step.to in
-    subst2 (sym before) (sym after) (by place step (end_or_amid (stage_of step.next)))
+    let before = ap (written_where s) so_far.1 ∙ text_before s place step.next line step.accepted in
+    subst₂ Adds (sym before) (sym (ap (written_where s) step.to)) (by place step (end_or_amid s step.next))
   where
-    subst2 : {a b x y : List ℕ} → a ≡ b → x ≡ y → Adds a x → Adds b y
-    subst2 {a} {b} {x} {y} p q adds = subst (λ t. Adds t y) p (subst (λ t. Adds a t) q adds)
-
-    by : (place : Place OfScript) (step : NextPlace s place done line) → (stage_of step.next ≡ stage.End) ⊎ (stage_of step.next ≢ stage.End)
+    by : (place : Place OfScript) (step : NextPlace s place done line)
+        → IsAtEnd step.next ⊎ ((stage_of step.next ≢ stage.End) × (written_at s step.next ≡ commands_text as_text (up_to s (commands_at step.next))))
         → Adds (commands_text as_text (up_to s (commands_at place))) (written_at s step.next)
-    by place step (inl ends) =
-        let it = at_end step.next ends in
+    by place step (inl it) =
         let all : it.said ≡ s = end_is_last it.said step.later s (subst (λ q. place_from q step.later ≡ Ok (AtEnd s)) it.is step.end) in
         let every : commands_at step.next ≡ s.commands = ap commands_at it.is ∙ ap (λ (t : ScriptValue). t.commands) all in
-        let same : commands_at step.next ≡ commands_at place = end_said (stage_of place) (stage_of step.next) (commands_at place) (commands_at step.next) ends step.steps.said in
+        let same : commands_at step.next ≡ commands_at place = end_said (stage_of place) (stage_of step.next) (commands_at place) (commands_at step.next) (ap stage_of it.is) step.steps.said in
         let cs : s.commands ≡ commands_at place = sym every ∙ same in
         subst (λ xs. Adds (commands_text as_text (up_to s xs)) (written_at s step.next)) cs
         (subst (λ t. Adds (commands_text as_text s) t) (sym (ap (written_at s) it.is)) (last_adds s))
     by place step (inr amid) =
-        subst (λ t. Adds (commands_text as_text (up_to s (commands_at place))) t) (sym (text_amid s step.next amid))
+        subst (λ t. Adds (commands_text as_text (up_to s (commands_at place))) t) (sym amid.1)
         (said_adds s (completes (stage_of place) (stage_of step.next)) (commands_at place) (commands_at step.next) step.steps.said)
 
-fault_whole : (fault : ScriptFault) → IsEnded (fault_line fault)
-fault_whole fault = line_ended (codes "fault line=" ∷ decimal fault.line ∷ codes " " ∷ kind_text fault.kind ∷ [])
-
-fault_adds : (own done : List (List ℕ)) (line : List ℕ) (fault : ScriptFault) → IsNext own done line → script_of (lines_text own) ≡ Err fault
-    → Adds (written own done) (written own (done ++ line ∷ []))
-fault_adds own done line fault next said =
+fault_adds : (own done : List (List ℕ)) (line : List ℕ) (fault : ScriptFault) → IsNext own done line
+    → Adds (written_as own done (Err fault)) (written_as own (done ++ line ∷ []) (Err fault))
+fault_adds own done line fault next =
     let size : length own ≡ length done + (1 + length next.later) =
     omega (arith, ap (λ (ls : List (List ℕ)). length ls) next.all, length-append done (line ∷ next.later)) in
     let none : (length done == length own) ≡ false = not_all (length done) (length own) (omega (arith, size)) in
-    let before : written own done ≡ [] = ap (written_as own done) said ∙ ap (λ t. if t then fault_line fault else []) none in
-    let after : written own (done ++ line ∷ []) ≡ (if length (done ++ line ∷ []) == length own then fault_line fault else []) =
-    ap (written_as own (done ++ line ∷ [])) said in
-    record { added = written own (done ++ line ∷ []); is = ap (λ t. t ++ written own (done ++ line ∷ [])) (sym before); whole = subst IsEnded (sym after) (by (length (done ++ line ∷ []) == length own)) }
+    subst (λ t. Adds (if t then fault_line fault else []) (written_as own (done ++ line ∷ []) (Err fault))) (sym none) (by (length (done ++ line ∷ []) == length own))
   where
     not_all : (a b : ℕ) → a < b → (a == b) ≡ false
     not_all a b less = grind (arith, nat_tests)
 
-    by : (t : Bool) → IsEnded (if t then fault_line fault else [])
-    by true = fault_whole fault
-    by false = none_ended
+    by : (t : Bool) → Adds [] (if t then fault_line fault else [])
+    by true = record {
+      added = fault_line fault;
+      is = refl;
+      whole = line_ended (codes "fault line=" ∷ decimal fault.line ∷ codes " " ∷ kind_text fault.kind ∷ []);
+    }
+    by false = none_added []
 
 adds : (own done : List (List ℕ)) (line : List ℕ) → IsNext own done line → Adds (written own done) (written own (done ++ line ∷ []))
-adds own done line next = by (script_of (lines_text own)) refl
-  where
-    by : (r : Result ScriptValue ScriptFault) → script_of (lines_text own) ≡ r → Adds (written own done) (written own (done ++ line ∷ []))
-    by (Ok s) said = script_adds own done line s next said
-    by (Err fault) said = fault_adds own done line fault next said
+adds own done line next =
+    (elim (script_of (lines_text own)) as (λ r. script_of (lines_text own) ≡ r → Adds (written_as own done r) (written_as own (done ++ line ∷ []) r)) [
+      | Ok s ↦ script_adds own done line s next
+      | Err fault ↦ λ said. fault_adds own done line fault next
+    ]) refl
 
 -- a line adds whole lines: what its context gains
 pub gains : (own done : List (List ℕ)) (line : List ℕ) → IsNext own done line
@@ -294,24 +277,20 @@ told_all [] none = absurd (omega arith)
 told_all (b ∷ bs) some = refl
 
 nothing_first : (own : List (List ℕ)) → 0 < length own → written own [] ≡ []
-nothing_first own some = by (script_of (lines_text own)) refl
-  where
-    none : (0 == length own) ≡ false
-    none = grind (arith, nat_tests)
-
-    by : (r : Result ScriptValue ScriptFault) → script_of (lines_text own) ≡ r → written own [] ≡ []
-    by (Ok s) said = ap (written_as own []) said
-    by (Err fault) said = ap (written_as own []) said ∙ ap (λ t. if t then fault_line fault else []) none
+nothing_first own some =
+    let none : (0 == length own) ≡ false = grind (arith, nat_tests) in
+    elim (script_of (lines_text own)) as (λ r. written_as own [] r ≡ []) [
+      | Ok s ↦ refl
+      | Err fault ↦ ap (λ t. if t then fault_line fault else []) none
+    ]
 
 all_last : (own : List (List ℕ)) → All (IsPiece 10) own → written own own ≡ told (script_of (lines_text own))
-all_last own pieces = by (script_of (lines_text own)) refl
-  where
-    every : (length own == length own) ≡ true
-    every = grind (arith, nat_tests)
-
-    by : (r : Result ScriptValue ScriptFault) → script_of (lines_text own) ≡ r → written own own ≡ told (script_of (lines_text own))
-    by (Ok s) said = ap (written_as own own) said ∙ ap (written_where s) (script_leads own s pieces said) ∙ sym (ap told said)
-    by (Err fault) said = ap (written_as own own) said ∙ ap (λ t. if t then fault_line fault else []) every ∙ sym (ap told said)
+all_last own pieces =
+    let every : (length own == length own) ≡ true = grind (arith, nat_tests) in
+    (elim (script_of (lines_text own)) as (λ r. script_of (lines_text own) ≡ r → written_as own own r ≡ told r) [
+      | Ok s ↦ λ said. ap (written_where s) (script_leads own s pieces said)
+      | Err fault ↦ λ said. ap (λ t. if t then fault_line fault else []) every
+    ]) refl
 
 whole_voice : (own : List (List ℕ)) (said : List ℕ) → All (IsPiece 10) own → written own [] ++ said ≡ written own own → said ≡ all_written (lines_text own)
 whole_voice [] said pieces is = append_cancel_left (written [] []) said [] (is ∙ sym (append-nil (written [] [])))

@@ -1,11 +1,13 @@
 -- What a line that is accepted begins with.
-use Rattle.std.proofs.Common.{◌≡◌, ℕ, Bool, true, false, not, List, [], ◌∷◌, drop, Ok, Err, refl, sym, ap, ◌∙◌}
-use Rattle.std.specs.Prelude.{OnOk, Result, if◌then◌else◌}
+use Rattle.std.proofs.Common.{◌≡◌, ℕ, Bool, true, false, not, List, drop, Ok, Err, refl}
+use Rattle.std.specs.Prelude.{Result, if◌then◌else◌}
 use Rattle.line_text.specs.Parts.{is_plain, parts}
 use Rattle.script_lines.specs.declared.kind.ScriptKind.{ScriptKind}
 use Rattle.script_lines.specs.declared.kind.ScriptKind.TheVariants.{Form, Word}
 use Rattle.script_lines.specs.Head.{limited}
 use Rattle.script_lines.specs.Refusal.{◌>>=◌, only_if}
+use Rattle.damon_control.specs.declared.fault.ScriptFault.{ScriptFault}
+use Rattle.damon_control.specs.Script.{at}
 use Rattle.script_lines.specs.Words.{alone, arguments, begins_with, no_word, number_32, one_word}
 
 -- where two steps in a row succeed, each of them does
@@ -13,10 +15,11 @@ pub bind-Ok : {A B E : Type 0} (r : Result A E) (f : A → Result B E) (y : B) �
 bind-Ok (Ok x) f y e = (x, refl, e)
 bind-Ok (Err k) f y e = absurd cc
 
--- what follows where there is a value
-pub on_ok : {T E X Y : Type 0} (r : Result T E) → (X → Y) → OnOk r X → OnOk r Y
-on_ok (Ok x) f holds = f holds
-on_ok (Err e) f holds = holds
+-- so does a step that is read as a line of a text
+pub at-Ok : {A B : Type 0} (n : ℕ) (r : Result A ScriptKind) (f : A → Result B ScriptFault) (y : B) → (at n r >>= f) ≡ Ok y
+    → (x : A) × (r ≡ Ok x) × (f x ≡ Ok y)
+at-Ok n (Ok x) f y e = (x, refl, e)
+at-Ok n (Err kind) f y e = absurd cc
 
 -- a test that is passed gives its value
 pub only_if-Ok : {A : Type 0} (test : Bool) (kind : ScriptKind) (value x : A) → only_if test kind value ≡ Ok x → (test ≡ true) × (value ≡ x)

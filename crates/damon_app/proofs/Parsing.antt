@@ -2,6 +2,7 @@
 use Rattle.std.proofs.Common.{◌≡◌, ◌≢◌, ap₂, arith, ◌⊎◌, inl, inr, ℕ, List, [], ◌∷◌, true, false, Some, None, Option, codes, length, refl, ap, sym, ◌∙◌, Bool, subst}
 use Rattle.std.specs.Prelude.{◌==◌, ◌||◌, ◌&&◌, nat_le, String, if◌then◌else◌, map, string_bytes}
 use Rattle.std.specs.declared.alloc.Global.{Global}
+use Rattle.std.specs.List.{AllByRecursion}
 use Rattle.std.specs.Str.{bytes_eq}
 use Rattle.std.proofs.lemmas.Slice.Eq.{bytes_eq-Decides}
 use Rattle.clap.specs.declared.error.kind.ErrorKind.{ErrorKind}
@@ -100,39 +101,18 @@ IsParsedAs words =
     ((fault_of damon_app words ≡ []) × (words_found (subcommand_of damon_app words) ≡ named words))
     ⊎ ((k : ErrorKind) × (ks : Kinds) × (fault_of damon_app words ≡ k ∷ ks) × (named words ≡ None))
 
-none_parsed : IsParsedAs []
-unfolding clap_on_literals
-none_parsed = inr (kind.MissingSubcommand, [], refl, refl)
+-- a word after one that takes none
+none_after : (word : Text) → bytes_eq word (codes "tune") ≡ false → bytes_eq word (codes "gen") ≡ false → bytes_eq word (codes "heat") ≡ false
+    → (x : Text) (ws : List Text) → named (word ∷ x ∷ ws) ≡ None
+none_after word t g h x [] = rw (t, g, h) refl
+none_after word t g h x (y ∷ ws) = rw t refl
 
-replay_parsed : (ws : List Text) → ArePlain ws → IsParsedAs (codes "replay" ∷ ws)
-unfolding clap_on_literals
-replay_parsed [] plain = inl (refl, refl)
-replay_parsed (x ∷ []) plain = inr (kind.UnknownArgument, [], replay_fails x [] plain.0, refl)
-replay_parsed (x ∷ y ∷ ws) plain = inr (kind.UnknownArgument, [], replay_fails x (y ∷ ws) plain.0, refl)
-
-json_parsed : (ws : List Text) → ArePlain ws → IsParsedAs (codes "json" ∷ ws)
-unfolding clap_on_literals
-json_parsed [] plain = inl (refl, refl)
-json_parsed (x ∷ []) plain = inr (kind.UnknownArgument, [], json_fails x [] plain.0, refl)
-json_parsed (x ∷ y ∷ ws) plain = inr (kind.UnknownArgument, [], json_fails x (y ∷ ws) plain.0, refl)
-
-verify_parsed : (ws : List Text) → ArePlain ws → IsParsedAs (codes "verify" ∷ ws)
-unfolding clap_on_literals
-verify_parsed [] plain = inl (refl, refl)
-verify_parsed (x ∷ []) plain = inr (kind.UnknownArgument, [], verify_fails x [] plain.0, refl)
-verify_parsed (x ∷ y ∷ ws) plain = inr (kind.UnknownArgument, [], verify_fails x (y ∷ ws) plain.0, refl)
-
-admin_parsed : (ws : List Text) → ArePlain ws → IsParsedAs (codes "admin" ∷ ws)
-unfolding clap_on_literals
-admin_parsed [] plain = inl (refl, refl)
-admin_parsed (x ∷ []) plain = inr (kind.UnknownArgument, [], admin_fails x [] plain.0, refl)
-admin_parsed (x ∷ y ∷ ws) plain = inr (kind.UnknownArgument, [], admin_fails x (y ∷ ws) plain.0, refl)
-
-reclaim_parsed : (ws : List Text) → ArePlain ws → IsParsedAs (codes "reclaim" ∷ ws)
-unfolding clap_on_literals
-reclaim_parsed [] plain = inl (refl, refl)
-reclaim_parsed (x ∷ []) plain = inr (kind.UnknownArgument, [], reclaim_fails x [] plain.0, refl)
-reclaim_parsed (x ∷ y ∷ ws) plain = inr (kind.UnknownArgument, [], reclaim_fails x (y ∷ ws) plain.0, refl)
+-- a subcommand that takes no word
+alone_parsed : (name : Text) → IsParsedAs (name ∷ []) → bytes_eq name (codes "tune") ≡ false → bytes_eq name (codes "gen") ≡ false → bytes_eq name (codes "heat") ≡ false
+    → ((x : Text) (ws : List Text) → IsPlainWord x → fault_of damon_app (name ∷ x ∷ ws) ≡ kind.UnknownArgument ∷ [])
+    → (ws : List Text) → ArePlain ws → IsParsedAs (name ∷ ws)
+alone_parsed name itself t g h fails [] plain = itself
+alone_parsed name itself t g h fails (x ∷ ws) plain = inr (kind.UnknownArgument, [], fails x ws plain.0, none_after name t g h x ws)
 
 gen_parsed : (ws : List Text) → ArePlain ws → IsParsedAs (codes "gen" ∷ ws)
 unfolding clap_on_literals
@@ -148,10 +128,6 @@ heat_parsed ([] ∷ []) plain = inl (refl, refl)
 heat_parsed ((c ∷ cs) ∷ []) plain = inl (heat_passes c cs plain.0, heat_finds c cs plain.0)
 heat_parsed (x ∷ y ∷ ws) plain = inr (kind.UnknownArgument, [], heat_fails x y ws plain.0 plain.1.0, refl)
 
-tune_alone : IsParsedAs (codes "tune" ∷ [])
-unfolding clap_on_literals
-tune_alone = inr (kind.MissingRequiredArgument, [], refl, refl)
-
 -- goals, if they are not too many
 tune_named : (word : Text) (words : List Text) (t : Bool) → nat_le (length (word ∷ words)) MAX_GOALS ≡ t → named (codes "tune" ∷ word ∷ words) ≡ (if t then Some (tuning (word ∷ words)) else None)
 tune_named word words t is =
@@ -159,7 +135,8 @@ tune_named word words t is =
     rw (some, is) refl
 
 tune_parsed : (ws : List Text) → ArePlain ws → IsParsedAs (codes "tune" ∷ ws)
-tune_parsed [] plain = tune_alone
+unfolding clap_on_literals
+tune_parsed [] plain = inr (kind.MissingRequiredArgument, [], refl, refl)
 tune_parsed (word ∷ words) plain = by (nat_le (length (word ∷ words)) MAX_GOALS) refl
   where
     by : (t : Bool) → nat_le (length (word ∷ words)) MAX_GOALS ≡ t → IsParsedAs (codes "tune" ∷ word ∷ words)
@@ -169,8 +146,7 @@ tune_parsed (word ∷ words) plain = by (nat_le (length (word ∷ words)) MAX_GO
 -- words that name no subcommand
 none_named : (word : Text) (ws : List Text) → bytes_eq word (codes "replay") ≡ false → bytes_eq word (codes "json") ≡ false → bytes_eq word (codes "verify") ≡ false → bytes_eq word (codes "gen") ≡ false → bytes_eq word (codes "heat") ≡ false → bytes_eq word (codes "tune") ≡ false → bytes_eq word (codes "admin") ≡ false → bytes_eq word (codes "reclaim") ≡ false → named (word ∷ ws) ≡ None
 none_named word [] r j v g h t a m = rw (t, r, j, v, a, m) refl
-none_named word (x ∷ []) r j v g h t a m = rw (t, g, h) refl
-none_named word (x ∷ y ∷ ws) r j v g h t a m = rw t refl
+none_named word (x ∷ ws) r j v g h t a m = none_after word t g h x ws
 
 flipped : (a b : Text) → bytes_eq a b ≡ false → bytes_eq b a ≡ false
 flipped a b not = by (bytes_eq b a) refl
@@ -188,42 +164,44 @@ unnamed_parsed (c ∷ cs) ws plain r j v g h t a m =
 is_word : (word name : Text) (ws : List Text) → bytes_eq word name ≡ true → IsParsedAs (name ∷ ws) → IsParsedAs (word ∷ ws)
 is_word word name ws same parsed = subst (λ (w : Text). IsParsedAs (w ∷ ws)) (sym ((bytes_eq-Decides word name).0 same)) parsed
 
+-- a word that is one of these names, or none of them
+in_turn : (word : Text) (ws names : List Text) → AllByRecursion (λ name. IsParsedAs (name ∷ ws)) names
+    → (AllByRecursion (λ name. bytes_eq word name ≡ false) names → IsParsedAs (word ∷ ws)) → IsParsedAs (word ∷ ws)
+in_turn word ws [] parsed none = none tt
+in_turn word ws (name ∷ names) parsed none =
+    (elim (bytes_eq word name) as (λ t. bytes_eq word name ≡ t → IsParsedAs (word ∷ ws)) [
+      | true ↦ λ is. is_word word name ws is parsed.0
+      | false ↦ λ not. in_turn word ws names parsed.1 (λ others. none (not, others))
+    ]) refl
+
 -- words none of which begins with a hyphen are parsed as what they name
 pub words_parsed : (words : List Text) → ArePlain words → IsParsedAs words
-words_parsed [] plain = none_parsed
-words_parsed (word ∷ ws) plain = by_replay (bytes_eq word (codes "replay")) refl
-  where
-    by_reclaim : (u : Bool) → bytes_eq word (codes "reclaim") ≡ u → bytes_eq word (codes "replay") ≡ false → bytes_eq word (codes "json") ≡ false → bytes_eq word (codes "verify") ≡ false → bytes_eq word (codes "gen") ≡ false → bytes_eq word (codes "heat") ≡ false → bytes_eq word (codes "tune") ≡ false → bytes_eq word (codes "admin") ≡ false → IsParsedAs (word ∷ ws)
-    by_reclaim true is r j v g h t a = is_word word (codes "reclaim") ws is (reclaim_parsed ws plain.1)
-    by_reclaim false is r j v g h t a = unnamed_parsed word ws plain.0 r j v g h t a is
-
-    by_admin : (u : Bool) → bytes_eq word (codes "admin") ≡ u → bytes_eq word (codes "replay") ≡ false → bytes_eq word (codes "json") ≡ false → bytes_eq word (codes "verify") ≡ false → bytes_eq word (codes "gen") ≡ false → bytes_eq word (codes "heat") ≡ false → bytes_eq word (codes "tune") ≡ false → IsParsedAs (word ∷ ws)
-    by_admin true is r j v g h t = is_word word (codes "admin") ws is (admin_parsed ws plain.1)
-    by_admin false is r j v g h t = by_reclaim (bytes_eq word (codes "reclaim")) refl r j v g h t is
-
-    by_tune : (u : Bool) → bytes_eq word (codes "tune") ≡ u → bytes_eq word (codes "replay") ≡ false → bytes_eq word (codes "json") ≡ false → bytes_eq word (codes "verify") ≡ false → bytes_eq word (codes "gen") ≡ false → bytes_eq word (codes "heat") ≡ false → IsParsedAs (word ∷ ws)
-    by_tune true is r j v g h = is_word word (codes "tune") ws is (tune_parsed ws plain.1)
-    by_tune false is r j v g h = by_admin (bytes_eq word (codes "admin")) refl r j v g h is
-
-    by_heat : (t : Bool) → bytes_eq word (codes "heat") ≡ t → bytes_eq word (codes "replay") ≡ false → bytes_eq word (codes "json") ≡ false → bytes_eq word (codes "verify") ≡ false → bytes_eq word (codes "gen") ≡ false → IsParsedAs (word ∷ ws)
-    by_heat true is r j v g = is_word word (codes "heat") ws is (heat_parsed ws plain.1)
-    by_heat false is r j v g = by_tune (bytes_eq word (codes "tune")) refl r j v g is
-
-    by_gen : (t : Bool) → bytes_eq word (codes "gen") ≡ t → bytes_eq word (codes "replay") ≡ false → bytes_eq word (codes "json") ≡ false → bytes_eq word (codes "verify") ≡ false → IsParsedAs (word ∷ ws)
-    by_gen true is r j v = is_word word (codes "gen") ws is (gen_parsed ws plain.1)
-    by_gen false is r j v = by_heat (bytes_eq word (codes "heat")) refl r j v is
-
-    by_verify : (t : Bool) → bytes_eq word (codes "verify") ≡ t → bytes_eq word (codes "replay") ≡ false → bytes_eq word (codes "json") ≡ false → IsParsedAs (word ∷ ws)
-    by_verify true is r j = is_word word (codes "verify") ws is (verify_parsed ws plain.1)
-    by_verify false is r j = by_gen (bytes_eq word (codes "gen")) refl r j is
-
-    by_json : (t : Bool) → bytes_eq word (codes "json") ≡ t → bytes_eq word (codes "replay") ≡ false → IsParsedAs (word ∷ ws)
-    by_json true is r = is_word word (codes "json") ws is (json_parsed ws plain.1)
-    by_json false is r = by_verify (bytes_eq word (codes "verify")) refl r is
-
-    by_replay : (t : Bool) → bytes_eq word (codes "replay") ≡ t → IsParsedAs (word ∷ ws)
-    by_replay true is = is_word word (codes "replay") ws is (replay_parsed ws plain.1)
-    by_replay false is = by_json (bytes_eq word (codes "json")) refl is
+unfolding clap_on_literals
+words_parsed [] plain = inr (kind.MissingSubcommand, [], refl, refl)
+words_parsed (word ∷ ws) plain =
+    in_turn word ws (codes "replay" ∷ codes "json" ∷ codes "verify" ∷ codes "gen" ∷ codes "heat" ∷ codes "tune" ∷ codes "admin" ∷ codes "reclaim" ∷ []) (
+      alone_parsed (codes "replay") (inl (refl, refl)) refl refl refl replay_fails ws plain.1,
+      (
+        alone_parsed (codes "json") (inl (refl, refl)) refl refl refl json_fails ws plain.1,
+        (
+          alone_parsed (codes "verify") (inl (refl, refl)) refl refl refl verify_fails ws plain.1,
+          (
+            gen_parsed ws plain.1,
+            (
+              heat_parsed ws plain.1,
+              (
+                tune_parsed ws plain.1,
+                (
+                  alone_parsed (codes "admin") (inl (refl, refl)) refl refl refl admin_fails ws plain.1,
+                  (alone_parsed (codes "reclaim") (inl (refl, refl)) refl refl refl reclaim_fails ws plain.1, tt),
+                ),
+              ),
+            ),
+          ),
+        ),
+      ),
+    )
+    (λ o. unnamed_parsed word ws plain.0 o.0 o.1.0 o.1.1.0 o.1.1.1.0 o.1.1.1.1.0 o.1.1.1.1.1.0 o.1.1.1.1.1.1.0 o.1.1.1.1.1.1.1.0)
 
 -- ---- what the words ask for
 

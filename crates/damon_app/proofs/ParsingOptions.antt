@@ -106,5 +106,3 @@ option_asks (word ∷ words) is = by (bytes_eq (string_bytes word) (codes "tune"
     by : (t : Bool) → bytes_eq (string_bytes word) (codes "tune") ≡ t → (if t then asked_to_tune (map string_bytes words) else asked_by (string_bytes word) (map string_bytes words)) ≡ None
     by true tune = tuned (begins_with_hyphen (string_bytes word)) refl ((bytes_eq-Decides (string_bytes word) (codes "tune")).0 tune) is
     by false other = no_request word words is
-
--- ---- the subcommand that was found
