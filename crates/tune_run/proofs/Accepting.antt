@@ -1,53 +1,38 @@
 -- Which commits are accepted: each change that tunes a slot is.
-use Rattle.std.proofs.Common.{◌≡◌, ℕ, ◌≤◌, Bool, true, false, List, [], ◌∷◌, ◌++◌, length, reverse, Ok, Err, Option, Some, None, refl, sym, ap, subst, ◌∙◌, arith, append-nil, append_assoc}
-use Rattle.std.specs.Prelude.{Result, ◌==◌, filter_map, if◌then◌else◌}
+use Rattle.std.proofs.Common.{◌≡◌, ℕ, ◌≤◌, Bool, true, false, List, [], ◌∷◌, ◌++◌, length, Ok, Err, Option, Some, None, refl, sym, ap, subst, ◌∙◌, arith}
+use Rattle.std.specs.Prelude.{◌==◌, filter_map, if◌then◌else◌}
 use Rattle.std.specs.Result.{result_and}
 use Rattle.std.proofs.lemmas.Bool.Decides.{nat_tests}
-use Rattle.std.proofs.lemmas.Grind.{reverse_onto}
+use mathlib.Core.List.{reverse_aux}
 use Rattle.damon_types.specs.Faults.{fault_as}
-use Rattle.damon_types.specs.declared.row.Row.{Row}
-use Rattle.damon_types.specs.declared.scheme.CostPart.{CostPart}
 use Rattle.damon_types.specs.declared.scheme.Quota.{Quota}
 use Rattle.damon_types.specs.declared.scheme.Scheme.{Scheme}
-use Rattle.damon_types.specs.declared.scheme.SchemeFault.{SchemeFault}
 use Rattle.damon_types.specs.declared.scheme.SlotChange.{SlotChange}
 use Rattle.damon_types.specs.declared.scheme.Version.{Version}
 use Rattle.damon_types.specs.declared.scheme.Version.TheVariants.{One, Two}
 use Rattle.damon_types.specs.Scheme.{checked_in}
 use Rattle.damon_types.proofs.Lemmas.{both_ok, fault_as_ok}
 use Rattle.live_commit.specs.declared.fault.SetupFault.TheVariants.{BadScheme as BadSlot, RepeatedSlot}
-use Rattle.live_commit.specs.declared.fault.CommitFault.{CommitFault}
 use Rattle.live_commit.specs.declared.fault.CommitFault.TheVariants.{BadScheme}
 use Rattle.live_commit.specs.declared.phase.Phase.{Phase}
 use Rattle.live_commit.specs.declared.phase.Phase.TheVariants.{Idle, Clearing, Armed, Checking, Void, Due}
 use Rattle.live_commit.specs.Accepted.{AllowsCommit}
-use Rattle.live_commit.specs.Accepts.{checked_cost, checked_for_slot, checked_new_attrs, checked_new_ranges, checked_new_slot, checked_number, checked_phase, max_after, ranges_after}
+use Rattle.live_commit.specs.Accepts.{checked_for_slot, checked_new_attrs, checked_new_ranges, checked_new_slot, checked_number, checked_phase, max_after, ranges_after}
 use Rattle.live_commit.specs.Commit.{CommitValue}
 use Rattle.live_commit.specs.Setup.{IsSetup, SetupValue}
 use Rattle.live_commit.specs.Slots.{checked_after, checked_set, checked_slot, is_set}
+use Rattle.live_commit.proofs.Lemmas.{commit_accepted}
 use Rattle.damon_core.specs.After.{after, by_clear, by_load, by_observe}
-use Rattle.damon_core.specs.Commit.{becomes_void, check_of, committed, committed_core, if_accepted, phase_after_commit, view_of}
+use Rattle.damon_core.specs.Commit.{becomes_void, check_of, committed, committed_core, if_accepted, view_of}
 use Rattle.damon_core.specs.Event.{Event, touch, prepare, clear, load, observe, aggregate, commit, show}
 use Rattle.damon_core.specs.Note.{Note, set}
 use Rattle.damon_core.specs.Reached.{Reached, run}
 use Rattle.damon_core.specs.Slots.{scheme_of}
 use Rattle.damon_core.specs.State.{Core, State, opening, row_count}
-use Rattle.damon_core.proofs.Lemmas.{few_after, scheme_stays, set_note, with_cost, with_metric, with_slot}
+use Rattle.damon_core.proofs.Lemmas.{few_after, scheme_stays, set_note, with_slot}
 use Rattle.quota_goal.specs.Tuned.{with_bytes}
 use Rattle.tune_run.specs.Callbacks.{change_alone}
-
-and_ok : {E : Type 0} (r s : Result (Unit {0}) E) → r ≡ Ok tt → s ≡ Ok tt → result_and r s ≡ Ok tt
-and_ok (Ok t) s first second = second
-and_ok (Err e) s first second = absurd (cc)
-
--- the checks of a commit after that of the phase
-abbrev pub later_checks : CommitValue → Core → Result (Unit {0}) CommitFault
-later_checks parts c =
-    let v = view_of c in
-    result_and (checked_new_ranges c.space v.unit v.cap parts.ranges)
-    (result_and (checked_number (ranges_after parts.ranges v.ranges) (max_after parts.attrs v.max))
-    (result_and (checked_new_attrs v.cap parts.attrs)
-    (result_and (checked_new_slot v.version parts.slot) (checked_cost v.version parts.cost))))
+use Rattle.tune_run.proofs.Slots.{only_slot}
 
 -- ---- what holds of the schemes of each reached state
 
@@ -72,39 +57,25 @@ set_sound version slot scheme notes ok sound i held is =
     ]) refl is
 
 -- the slots of a setup
-scheme_fault_ok : (index : ℕ) (r : Result (Unit {0}) SchemeFault) → (fault_as (BadSlot index) r) ≡ Ok tt → r ≡ Ok tt
-scheme_fault_ok index (Ok t) ok = refl
-scheme_fault_ok index (Err why) ok = absurd (cc)
-
 setup_sound : (version : Version) (before changes : List SlotChange) (notes : List Note) → AreSound version notes
-    → checked_after version before changes ≡ Ok tt → AreSound version (reverse (filter_map set_note changes) ++ notes)
+    → checked_after version before changes ≡ Ok tt → AreSound version (reverse_aux (filter_map set_note changes) notes)
 setup_sound version before [] notes sound ok = sound
 setup_sound version before (c ∷ changes) notes sound ok =
     let both = both_ok (checked_slot version (length before) before c) (checked_after version (before ++ c ∷ []) changes) ok in
     by_scheme c.slot c.scheme (is_set c.slot before) both.0 (λ earlier held. setup_sound version (before ++ c ∷ []) changes earlier held both.1)
   where
     by_scheme : (slot : ℕ) (scheme : Option Scheme) (is : Bool) → checked_set version (length before) is slot scheme ≡ Ok tt
-        → ((earlier : List Note) → AreSound version earlier → AreSound version (reverse (filter_map set_note changes) ++ earlier))
-        → AreSound version (reverse (filter_map set_note (record { slot = slot; scheme = scheme } ∷ changes)) ++ notes)
+        → ((earlier : List Note) → AreSound version earlier → AreSound version (reverse_aux (filter_map set_note changes) earlier))
+        → AreSound version (reverse_aux (filter_map set_note (record { slot = slot; scheme = scheme } ∷ changes)) notes)
     by_scheme slot None is fine rest = rest notes sound
     by_scheme slot (Some scheme) is fine rest =
-        let others = filter_map set_note changes in
-        let checked = scheme_fault_ok (length before) (checked_in version slot scheme) (both_ok (fault_as (BadSlot (length before)) (checked_in version slot scheme)) (if is then Err (RepeatedSlot (length before)) else Ok tt) fine).0 in
-        subst (λ (all : List Note). AreSound version all)
-        (sym (append_assoc (reverse others) (set slot scheme ∷ []) notes) ∙ ap (λ front. front ++ notes) (sym (reverse_onto others (set slot scheme) [])))
-        (rest (set slot scheme ∷ notes) (set_sound version slot scheme notes checked sound))
+        let both = both_ok (fault_as (BadSlot (length before)) (checked_in version slot scheme)) (if is then Err (RepeatedSlot (length before)) else Ok tt) fine in
+        rest (set slot scheme ∷ notes) (set_sound version slot scheme notes (fault_as_ok (BadSlot (length before)) (checked_in version slot scheme) both.0) sound)
 
 pub opening_takes : (v : SetupValue) → IsSetup v → TakesChanges (opening v)
-opening_takes v is = (
-  is.ranges_most,
-  subst (λ (all : List Note). AreSound v.version all) (append-nil (opening v).notes)
-      (setup_sound v.version [] v.slots [] (λ slot scheme held. absurd (cc held)) is.slots),
-)
+opening_takes v is = (is.ranges_most, setup_sound v.version [] v.slots [] (λ slot scheme held. absurd (cc held)) is.slots)
 
 -- ---- each event keeps it
-
-number_fits : (ranges max : ℕ) → checked_number ranges max ≡ Ok tt → ranges ≤ max
-number_fits ranges max ok = grind (arith, nat_tests)
 
 slot_sound : (version : Version) (slot : Option SlotChange) (notes : List Note) → checked_new_slot version slot ≡ Ok tt
     → AreSound version notes → AreSound version (with_slot slot notes)
@@ -121,67 +92,45 @@ slot_sound version (Some change) notes ok sound =
         ]) is
     by_scheme (Some scheme) fine i held is = set_sound version change.slot scheme notes fine sound i held is
 
-metric_sound : (version : Version) (value : Option ℕ) (notes : List Note) → AreSound version notes → AreSound version (with_metric value notes)
-metric_sound version None notes sound = sound
-metric_sound version (Some value) notes sound = sound
-
-cost_sound : (version : Version) (part : Option CostPart) (notes : List Note) → AreSound version notes → AreSound version (with_cost part notes)
-cost_sound version None notes sound = sound
-cost_sound version (Some part) notes sound = sound
-
-commit_takes : (parts : CommitValue) (s : State) (check : Result (Unit {0}) CommitFault) → check_of parts s.core ≡ check → TakesChanges s
-    → TakesChanges (if_accepted check (committed parts s) s)
-commit_takes parts s (Err fault) is here = here
-commit_takes parts s (Ok t) is here =
+pub commit_takes : (parts : CommitValue) (s : State) → check_of parts s.core ≡ Ok tt → TakesChanges s → TakesChanges (committed parts s)
+commit_takes parts s ok here =
     let c = s.core in
     let v = view_of c in
-    let version = c.version in
-    let phase = both_ok (checked_phase c.phase (row_count c)) (later_checks parts c) is in
+    let phase = both_ok (checked_phase c.phase (row_count c)) _ ok in
     let ranges = both_ok (checked_new_ranges c.space v.unit v.cap parts.ranges) _ phase.1 in
     let number = both_ok (checked_number (ranges_after parts.ranges v.ranges) (max_after parts.attrs v.max)) _ ranges.1 in
     let attrs = both_ok (checked_new_attrs v.cap parts.attrs) _ number.1 in
-    let slot = both_ok (checked_new_slot version parts.slot) (checked_cost version parts.cost) attrs.1 in (
-      few_after c parts.attrs parts.ranges parts.slot parts.metric parts.cost (number_fits (ranges_after parts.ranges v.ranges) (max_after parts.attrs v.max) number.0),
-      cost_sound version parts.cost (with_metric parts.metric (with_slot parts.slot s.notes))
-          (metric_sound version parts.metric (with_slot parts.slot s.notes) (slot_sound version parts.slot s.notes slot.0 here.1)),
+    let slot = both_ok (checked_new_slot c.version parts.slot) _ attrs.1 in (
+      few_after c parts.attrs parts.ranges parts.slot parts.metric parts.cost (commit_accepted c.space v parts ok).few,
+      λ i scheme is. slot_sound c.version parts.slot s.notes slot.0 here.1 i scheme (sym (only_slot parts s.notes i) ∙ is),
     )
 
-clear_takes : (phase : Phase) (s : State) → TakesChanges s → TakesChanges (by_clear phase s)
-clear_takes (Clearing k) s here = here
-clear_takes Idle s here = here
-clear_takes Armed s here = here
-clear_takes (Checking k) s here = here
-clear_takes Void s here = here
-clear_takes Due s here = here
-
-load_takes : (phase : Phase) (hit : Bool) (s : State) → TakesChanges s → TakesChanges (by_load phase hit s)
-load_takes Armed hit s here = here
-load_takes (Checking k) hit s here = here
-load_takes Idle hit s here = here
-load_takes (Clearing k) hit s here = here
-load_takes Void hit s here = here
-load_takes Due hit s here = here
-
-observe_takes : (phase : Phase) (s : State) → TakesChanges s → TakesChanges (by_observe phase s)
-observe_takes (Checking k) s here = here
-observe_takes Void s here = here
-observe_takes Idle s here = here
-observe_takes (Clearing k) s here = here
-observe_takes Armed s here = here
-observe_takes Due s here = here
+-- what a pass does in each phase
+pass_takes : (phase : Phase) (hit : Bool) (s : State) → TakesChanges s
+    → TakesChanges (by_clear phase s) × TakesChanges (by_load phase hit s) × TakesChanges (by_observe phase s)
+pass_takes Idle hit s here = (here, here, here)
+pass_takes (Clearing k) hit s here = (here, here, here)
+pass_takes Armed hit s here = (here, here, here)
+pass_takes (Checking k) hit s here = (here, here, here)
+pass_takes Void hit s here = (here, here, here)
+pass_takes Due hit s here = (here, here, here)
 
 pub event_takes : (e : Event) (s : State) → TakesChanges s → TakesChanges (after s e)
 event_takes (touch page) s here = here
 event_takes (prepare words) s here = here
-event_takes clear s here = clear_takes s.core.phase s here
-event_takes (load hit) s here = load_takes s.core.phase hit s here
-event_takes observe s here = observe_takes s.core.phase s here
+event_takes clear s here = (pass_takes s.core.phase true s here).0
+event_takes (load hit) s here = (pass_takes s.core.phase hit s here).1
+event_takes observe s here = (pass_takes s.core.phase true s here).2
 event_takes (aggregate words) s here =
     (here.0, λ slot scheme is. here.1 slot scheme (sym (scheme_stays s (aggregate words) tt slot) ∙ is))
-event_takes (commit parts) s here = commit_takes parts s (check_of parts s.core) refl here
+event_takes (commit parts) s here =
+    (elim (check_of parts s.core) as (λ r. check_of parts s.core ≡ r → TakesChanges (if_accepted r (committed parts s) s)) [
+      | Ok t ↦ λ ok. commit_takes parts s ok here
+      | Err fault ↦ λ refused. here
+    ]) refl
 event_takes show s here = here
 
-pub run_takes : (es : List Event) (s : State) → TakesChanges s → TakesChanges (run s es)
+run_takes : (es : List Event) (s : State) → TakesChanges s → TakesChanges (run s es)
 run_takes [] s here = here
 run_takes (e ∷ es) s here = run_takes es (after s e) (event_takes e s here)
 
@@ -211,35 +160,21 @@ phase_allows Due rows free = refl
 number_is_few : (ranges max : ℕ) → ranges ≤ max → checked_number ranges max ≡ Ok tt
 number_is_few ranges max few = grind (arith, nat_tests)
 
-fault_as_of_ok : {E : Type 0} (fault : E → CommitFault) (r : Result (Unit {0}) E) → r ≡ Ok tt → fault_as fault r ≡ Ok tt
-fault_as_of_ok fault (Ok t) ok = refl
-fault_as_of_ok fault (Err why) ok = absurd (cc)
-
 pub tuned_is_accepted : (s : State) (slot : ℕ) (scheme : Scheme) (bytes : ℕ) → TakesChanges s → AllowsCommit s.core.phase
     → scheme_of s.notes slot ≡ Some scheme
     → check_of (change_alone (record { slot = slot; scheme = Some (with_bytes scheme bytes) })) s.core ≡ Ok tt
 tuned_is_accepted s slot scheme bytes takes free held =
     let c = s.core in
-    let change : SlotChange = record { slot = slot; scheme = Some (with_bytes scheme bytes) } in
-    let checked = checked_new_slot c.version (Some change) in
-    and_ok (checked_phase c.phase (row_count c)) (later_checks (change_alone change) c) (phase_allows c.phase (row_count c) free)
-    (and_ok (checked_number (length c.regions.ranges) c.attrs.max) (result_and checked (Ok tt)) (number_is_few (length c.regions.ranges) c.attrs.max takes.0)
-    (and_ok checked (Ok tt) (fault_as_of_ok BadScheme (checked_in c.version slot (with_bytes scheme bytes)) (other_bytes c.version slot scheme bytes ∙ takes.1 slot scheme held)) refl))
+    let number = checked_number (length c.regions.ranges) c.attrs.max in
+    let changed = checked_new_slot c.version (Some (record { slot = slot; scheme = Some (with_bytes scheme bytes) })) in
+    ap (λ r. result_and r (result_and number (result_and changed (Ok tt)))) (phase_allows c.phase (row_count c) free)
+    ∙ ap (λ r. result_and r (result_and changed (Ok tt))) (number_is_few (length c.regions.ranges) c.attrs.max takes.0)
+    ∙ ap (λ r. result_and (fault_as BadScheme r) (Ok tt)) (other_bytes c.version slot scheme bytes ∙ takes.1 slot scheme held)
 
 -- commits are allowed in the phase after a commit that was accepted
-phase_stays_free : (phase : Phase) (rows : ℕ) (old new : List Row) → checked_phase phase rows ≡ Ok tt → AllowsCommit (phase_after_commit phase old new)
-phase_stays_free Idle rows old new ok = tt
-phase_stays_free (Clearing next) rows old new ok = absurd (cc)
-phase_stays_free Armed rows old new ok =
-    elim (becomes_void Armed old new) as (λ b. AllowsCommit (if b then Void else Armed)) [
-      | true ↦ tt
-      | false ↦ tt
-    ]
-phase_stays_free (Checking next) rows old new ok = absurd (cc)
-phase_stays_free Void rows old new ok = tt
-phase_stays_free Due rows old new ok = tt
-
 pub free_again : (parts : CommitValue) (c : Core) → check_of parts c ≡ Ok tt → AllowsCommit (committed_core parts c).phase
 free_again parts c ok =
-    phase_stays_free c.phase (row_count c) c.regions.rows (committed_core parts c).regions.rows
-    (both_ok (checked_phase c.phase (row_count c)) (later_checks parts c) ok).0
+    elim (becomes_void c.phase c.regions.rows (committed_core parts c).regions.rows) as (λ b. AllowsCommit (if b then Void else c.phase)) [
+      | true ↦ tt
+      | false ↦ (commit_accepted c.space (view_of c) parts ok).phase
+    ]

@@ -2,60 +2,55 @@
 use Rattle.std.proofs.Common.{◌≡◌, ℕ, zero, suc, ◌+◌, ◌-◌, ◌<◌, ◌≤◌, [], ◌∷◌, Option, Some, None, refl, sym, ap, subst, ◌∙◌, arith}
 use Rattle.std.specs.Prelude.{filter_map}
 use Rattle.std.specs.List.{cons_option, range_with_len}
-use Rattle.std.specs.Option.{option_and_then, option_map}
+use Rattle.std.specs.Option.{option_and_then, option_map, option_map_or}
 use Rattle.std.proofs.lemmas.List.{get_or-set_other}
 use Rattle.damon_types.specs.declared.scheme.Scheme.{Scheme}
 use Rattle.damon_types.specs.declared.scheme.SlotChange.{SlotChange}
-use Rattle.damon_types.specs.declared.scheme.TheConstants.{MAX_SLOT}
 use Rattle.damon_core.specs.Slots.{slot_count}
 use Rattle.quota_goal.specs.declared.moment.Moment.{Moment}
 use Rattle.quota_goal.specs.Tuned.{TunerView, after_change, change_at, new_bytes, retuned, scheme_at, tunable_bytes, with_bytes}
 use Rattle.tune_run.specs.Callbacks.{changes_at}
 use Rattle.tune_run.specs.Kept.{IsNextChange, changes_from}
-use Rattle.tune_run.proofs.Slots.{below_counted}
+use Rattle.tune_run.proofs.Slots.{count_is}
 
--- what changes a slot at a moment: its scheme in force, with other bytes
-pub record IsRetuned (t : TunerView) (slot : ℕ) (moment : Moment) (c : SlotChange) : Type 0 where
+-- what changes a slot: its scheme in force, with other bytes
+pub record IsRetuned (t : TunerView) (slot : ℕ) (c : SlotChange) : Type 0 where
   pub scheme : Scheme
-  pub before : ℕ
   pub bytes : ℕ
   pub held : scheme_at t slot ≡ Some scheme
-  pub was : tunable_bytes scheme ≡ Some before
-  pub new : new_bytes t slot moment before ≡ Some bytes
   pub is : c ≡ record { slot = slot; scheme = Some (with_bytes scheme bytes) }
 
 -- the change of a slot to a scheme, if there is one
 abbrev pub change_to : ℕ → Option Scheme → Option SlotChange
 change_to slot held = option_map (λ s. record { slot = slot; scheme = Some s }) held
 
-pub retuned_is : (t : TunerView) (slot : ℕ) (moment : Moment) (c : SlotChange) → change_at t slot moment ≡ Some c → IsRetuned t slot moment c
-retuned_is t slot moment c is =
-    (elim (scheme_at t slot) as (λ held. scheme_at t slot ≡ held → change_to slot (option_and_then (retuned t slot moment) held) ≡ Some c → IsRetuned t slot moment c) [
-      | None ↦ λ held here. absurd (cc here)
-      | Some scheme ↦ λ held here. by_tunable scheme held (tunable_bytes scheme) refl here
-    ]) refl is
-  where
-    by_new : (scheme : Scheme) (before : ℕ) → scheme_at t slot ≡ Some scheme → tunable_bytes scheme ≡ Some before → (new : Option ℕ)
-        → new_bytes t slot moment before ≡ new → change_to slot (option_map (with_bytes scheme) new) ≡ Some c → IsRetuned t slot moment c
-    by_new scheme before held was None new here = absurd (cc here)
-    by_new scheme before held was (Some bytes) new here =
-        record { scheme = scheme; before = before; bytes = bytes; held = held; was = was; new = new; is = sym (cc here) }
+-- the scheme of a slot once it was tuned at a moment: that of its change, if there is one, or as it was
+abbrev pub tuned_from : TunerView → ℕ → Moment → Option Scheme → Option Scheme
+tuned_from t slot moment held = option_map_or (λ (c : SlotChange). c.scheme) (change_to slot (option_and_then (retuned t slot moment) held)) held
 
-    by_tunable : (scheme : Scheme) → scheme_at t slot ≡ Some scheme → (old : Option ℕ) → tunable_bytes scheme ≡ old
-        → change_to slot (option_map (with_bytes scheme) (option_and_then (new_bytes t slot moment) old)) ≡ Some c → IsRetuned t slot moment c
-    by_tunable scheme held None was here = absurd (cc here)
-    by_tunable scheme held (Some before) was here = by_new scheme before held was (new_bytes t slot moment before) refl here
+abbrev pub tuned_scheme : TunerView → ℕ → Moment → Option Scheme
+tuned_scheme t slot moment = tuned_from t slot moment (scheme_at t slot)
+
+pub retuned_is : (t : TunerView) (slot : ℕ) (moment : Moment) (c : SlotChange) → change_at t slot moment ≡ Some c → IsRetuned t slot c
+retuned_is t slot moment c is =
+    (elim (scheme_at t slot) as (λ held. scheme_at t slot ≡ held → change_to slot (option_and_then (retuned t slot moment) held) ≡ Some c → IsRetuned t slot c) [
+      | None ↦ λ held here. absurd (cc here)
+      | Some scheme ↦ λ held.
+          elim (option_and_then (new_bytes t slot moment) (tunable_bytes scheme)) as (λ new. change_to slot (option_map (with_bytes scheme) new) ≡ Some c → IsRetuned t slot c) [
+            | None ↦ λ here. absurd (cc here)
+            | Some bytes ↦ λ here. record { scheme = scheme; bytes = bytes; held = held; is = sym (cc here) }
+          ]
+    ]) refl is
 
 -- a change is of its slot
 pub slot_is : (t : TunerView) (slot : ℕ) (moment : Moment) (c : SlotChange) → change_at t slot moment ≡ Some c → c.slot ≡ slot
 slot_is t slot moment c is = ap (λ (x : SlotChange). x.slot) (retuned_is t slot moment c is).is
 
 -- a change of one slot leaves that of another as it was
-pub other_stays : (t : TunerView) (c : SlotChange) (slot : ℕ) (moment : Moment) → (slot ≡ c.slot → ⊥)
+other_stays : (t : TunerView) (c : SlotChange) (slot : ℕ) (moment : Moment) → (slot ≡ c.slot → ⊥)
     → change_at (after_change (Some c) t) slot moment ≡ change_at t slot moment
 other_stays t c slot moment apart =
-    ap (λ held. option_map (λ (s : Scheme). record { slot = slot; scheme = Some s }) (option_and_then (retuned t slot moment) held))
-    (get_or-set_other t.schemes c.slot slot c.scheme None apart)
+    ap (λ held. change_to slot (option_and_then (retuned t slot moment) held)) (get_or-set_other t.schemes c.slot slot c.scheme None apart)
 
 pub later_stay : (t : TunerView) (c : SlotChange) (moment : Moment) (from n : ℕ) → c.slot < from
     → changes_at (after_change (Some c) t) moment (range_with_len from n) ≡ changes_at t moment (range_with_len from n)
@@ -88,7 +83,7 @@ pub next_is : (t : TunerView) (moment : Moment) (next slot : ℕ) (c : SlotChang
 next_is t moment next slot c below passed is =
     let of = slot_is t slot moment c is in
     record {
-      slot = subst (λ k. k ≤ MAX_SLOT) (sym of) (below_counted slot below);
+      slot = omega (arith, count_is, of);
       is = subst (λ k. change_at t k moment ≡ Some c) (sym of) is;
       after = refl;
       left =

@@ -5,12 +5,11 @@ pub mod Accepting
 pub mod Changes
 pub mod Committing
 pub mod Reporting
-pub mod Writing
 pub mod Fitting
-pub mod Through
 pub mod Least
 pub mod Bytes
 pub mod Below
+pub mod Through
 pub mod Running
 pub mod Scores
 pub mod Examples

@@ -1,17 +1,16 @@
 -- The bytes of a slot with one goal, as long as the scores stay on one side of the target.
-use Rattle.std.proofs.Common.{◌≡◌, ℕ, ◌<◌, ◌≤◌, min, true, false, List, [], ◌∷◌, get_or, Option, Some, None, Ok, Err, Result, refl, sym, ap, subst, ◌∙◌, arith}
-use Rattle.std.specs.Prelude.{◌==◌, IfSome, cond, filter_map, if◌then◌else◌}
+use Rattle.std.proofs.Common.{◌≡◌, ℕ, ◌<◌, ◌≤◌, min, true, false, List, [], ◌∷◌, get_or, Option, Some, None, Ok, Err, refl, sym, ap, subst, ◌∙◌, arith}
+use Rattle.std.proofs.Math.Path.{fun_ext}
+use Rattle.std.specs.Prelude.{◌==◌, IfSome, cond, filter_map, is_ok, if◌then◌else◌}
 use Rattle.std.specs.List.{AllByRecursion, cons_option}
 use Rattle.std.specs.Option.{option_and_then, option_map, option_map_or, unwrap_or}
+use Rattle.std.proofs.lemmas.Iterator.Adapters.{option_map_id}
 use Rattle.std.proofs.lemmas.List.{get_or-set_other}
 use Rattle.damon_types.specs.declared.scheme.SlotChange.{SlotChange}
-use Rattle.live_commit.specs.declared.fault.CommitFault.{CommitFault}
 use Rattle.live_commit.specs.Commit.{CommitValue}
 use Rattle.damon_core.specs.After.{after}
-use Rattle.damon_core.specs.Commit.{check_of}
+use Rattle.damon_core.specs.Commit.{check_of, committed, if_accepted}
 use Rattle.damon_core.specs.Event.{Event, touch, prepare, clear, load, observe, aggregate, commit, show}
-use Rattle.damon_core.specs.Reached.{run}
-use Rattle.damon_core.specs.Slots.{slot_count}
 use Rattle.damon_core.specs.State.{State}
 use Rattle.damon_core.proofs.Lemmas.{IsNoCommit}
 use Rattle.damon_world.proofs.Lemmas.{along-state}
@@ -26,12 +25,12 @@ use Rattle.quota_goal.specs.Tuned.{TunerView, bytes_at, given, least_of, nexts, 
 use Rattle.quota_goal.proofs.Lemmas.{bytes_fall, bytes_rise, least_of_bounds, most_of_bounds}
 use Rattle.tune_run.specs.Along.{LeavesSlot, ScoresAre, StayWithTheScores, bytes_in, goals_of, put_in, score_at, tuner_before, tuner_past, tuner_then}
 use Rattle.tune_run.specs.Callbacks.{moment_after, schemes_in, tune_callbacks, tuned_by, tuner_in}
-use Rattle.tune_run.specs.Tops.{tops_kept}
-use Rattle.tune_run.proofs.Below.{IsCarried, names_slots}
-use Rattle.tune_run.proofs.Bytes.{bytes_tuned, none_tunable}
-use Rattle.tune_run.proofs.Committing.{accepted_stands, refused_stands}
-use Rattle.tune_run.proofs.Running.{by_count, bytes_then, course_carries, no_scheme}
-use Rattle.tune_run.proofs.Staying.{schemes_stay}
+use Rattle.tune_run.specs.Tops.{tops_after, tops_kept}
+use Rattle.tune_run.proofs.Below.{IsCarried}
+use Rattle.tune_run.proofs.Committing.{given_is}
+use Rattle.tune_run.proofs.Least.{kept_goals}
+use Rattle.tune_run.proofs.Running.{bytes_then, course_carries}
+use Rattle.tune_run.proofs.Staying.{tuner_stays}
 
 -- ---- one goal
 
@@ -57,15 +56,6 @@ by_one slot moment bytes top goals g one =
     let by : Goal → Option ℕ = λ x. option_map (next x bytes top) (score_of x.kind moment) in
     ap least_of (by_goals slot moment bytes top goals ∙ ap (filter_map by) one) ∙ least_of_one (by g)
 
-each_of : (slot : ℕ) (goals : List Goal) → AllByRecursion IsGoal goals → AllByRecursion IsGoal (goals_of goals slot)
-each_of slot [] each = tt
-each_of slot (g ∷ goals) each =
-    let rest = each_of slot goals each.1 in
-    elim (g.slot == slot) as (λ b. AllByRecursion IsGoal (cond b (g ∷ goals_of goals slot) (goals_of goals slot))) [
-      | true ↦ (each.0, rest)
-      | false ↦ rest
-    ]
-
 -- bytes within the bounds of a goal
 abbrev IsIn : Goal → ℕ → ℕ → Type 0
 IsIn g top bytes = (min g.low top ≤ bytes) × (bytes ≤ min g.high top)
@@ -85,7 +75,7 @@ module _ (goals : List Goal) (tops : List ℕ) (s : State) (slot : ℕ) where
   old_tuner = tuner_in goals tops s
 
   no_commit : (e : Event) → IsNoCommit e → AreAlike slot (tuner_in goals tops (after s e)) old_tuner
-  no_commit e other = (ap (λ schemes. get_or schemes slot None) (schemes_stay s e other), refl)
+  no_commit e other = (ap (λ (x : TunerView). scheme_at x slot) (tuner_stays goals tops s e other), refl)
 
   by_change : (change : Option SlotChange) → IfSome change (λ c. c.slot ≡ slot → ⊥) → AreAlike slot (option_map_or (λ c. given c old_tuner) change old_tuner) old_tuner
   by_change None leaves = (refl, refl)
@@ -93,16 +83,14 @@ module _ (goals : List Goal) (tops : List ℕ) (s : State) (slot : ℕ) where
       let apart : slot ≡ c.slot → ⊥ = λ e. leaves (sym e) in
       (get_or-set_other (schemes_in s) c.slot slot c.scheme None apart, get_or-set_other tops c.slot slot (top_after c.scheme (get_or tops c.slot 0)) 0 apart)
 
-  by_commit : (parts : CommitValue) (check : Result (Unit {0}) CommitFault) → check_of parts s.core ≡ check
-      → IfSome parts.slot (λ c. c.slot ≡ slot → ⊥)
+  by_commit : (parts : CommitValue) → IfSome parts.slot (λ c. c.slot ≡ slot → ⊥)
       → AreAlike slot (tuner_in goals (tops_kept tops s (commit parts)) (after s (commit parts))) old_tuner
-  by_commit parts (Ok t) is leaves =
-      let new = option_map_or (λ c. given c old_tuner) parts.slot old_tuner in
-      let stands = accepted_stands goals tops parts s old_tuner new None None (record { is = refl; free = tt }) is (names_slots parts s is) refl in
-      subst (λ (x : TunerView). AreAlike slot x old_tuner) stands.is (by_change parts.slot leaves)
-  by_commit parts (Err fault) is leaves =
-      let stands = refused_stands goals tops parts s old_tuner None fault (record { is = refl; free = tt }) is in
-      subst (λ (x : TunerView). AreAlike slot x old_tuner) stands.is (refl, refl)
+  by_commit parts leaves =
+      elim (check_of parts s.core)
+      as (λ r. AreAlike slot (tuner_in goals (if is_ok r then tops_after parts.slot tops else tops) (if_accepted r (committed parts s) s)) old_tuner) [
+        | Ok t ↦ subst (λ (x : TunerView). AreAlike slot x old_tuner) (given_is goals tops parts s) (by_change parts.slot leaves)
+        | Err fault ↦ (refl, refl)
+      ]
 
   leaves_alike : (e : Event) → LeavesSlot slot e → AreAlike slot (tuner_in goals (tops_kept tops s e) (after s e)) old_tuner
   leaves_alike (touch page) leaves = no_commit (touch page) tt
@@ -111,7 +99,7 @@ module _ (goals : List Goal) (tops : List ℕ) (s : State) (slot : ℕ) where
   leaves_alike (load hit) leaves = no_commit (load hit) tt
   leaves_alike observe leaves = no_commit observe tt
   leaves_alike (aggregate words) leaves = no_commit (aggregate words) tt
-  leaves_alike (commit parts) leaves = by_commit parts (check_of parts s.core) refl leaves
+  leaves_alike (commit parts) leaves = by_commit parts leaves
   leaves_alike show leaves = no_commit show tt
 
 -- ---- one event
@@ -121,51 +109,22 @@ module _ (goals : List Goal) (g : Goal) (one : goals_of goals g.slot ≡ g ∷ [
   next_course r e = course_after (tune_callbacks goals) r e
 
   -- the bytes once all is put in
-  bytes_put : (r : Course) (e : Event) → IsCarried goals r.memory r.moment.state → (bytes : ℕ) → bytes_at (tuner_before goals r e) g.slot ≡ Some bytes
-      → g.slot < slot_count
-      → bytes_at (tuner_then goals r e) g.slot ≡ Some (new_by g (top_at (tuner_before goals r e) g.slot) bytes (score_at g r e))
-  bytes_put r e here bytes was within =
+  bytes_next : (r : Course) (e : Event) → IsCarried goals r.memory r.moment.state
+      → bytes_in goals (next_course r e) g.slot
+      ≡ option_map (λ b. new_by g (top_at (tuner_before goals r e) g.slot) b (score_at g r e)) (bytes_at (tuner_before goals r e) g.slot)
+  bytes_next r e here =
       let t = tuner_before goals r e in
       let top = top_at t g.slot in
-      (elim (moment_after r.moment.state e) as (λ o. moment_after r.moment.state e ≡ o
-      → bytes_at (tuner_then goals r e) g.slot ≡ Some (new_by g top bytes (option_and_then (score_of g.kind) o))) [
+      let tops = tops_kept r.memory r.moment.state e in
+      ap (λ (x : State). bytes_at (tuner_in goals tops x) g.slot) (along-state r.moment (e ∷ put_in goals r e))
+      ∙ (elim (moment_after r.moment.state e) as (λ o. moment_after r.moment.state e ≡ o
+      → bytes_at (tuner_then goals r e) g.slot ≡ option_map (λ b. new_by g top b (option_and_then (score_of g.kind) o)) (bytes_at t g.slot)) [
         | None ↦ λ none.
-            let put : put_in goals r e ≡ [] = ap (λ o. option_map_or (tuned_by t) o []) none in
-            ap (λ (es : List Event). bytes_at (tuner_past goals r e es) g.slot) put ∙ was
+            ap (λ o. bytes_at (tuner_past goals r e (option_map_or (tuned_by t) o [])) g.slot) none ∙ sym (option_map_id (bytes_at t g.slot))
         | Some m ↦ λ some.
-            bytes_then goals r e here m g.slot some within
-            ∙ bytes_tuned t g.slot m bytes was
-            ∙ ap (λ o. Some (unwrap_or o bytes)) (by_one g.slot m bytes top goals g one)
+            bytes_then goals r e here m g.slot some
+            ∙ ap (λ (f : ℕ → ℕ). option_map f (bytes_at t g.slot)) (fun_ext (λ b. ap (λ o. unwrap_or o b) (by_one g.slot m b top goals g one)))
       ]) refl
-
-  -- a slot that there is not has no bytes
-  beyond_all : (goals_too : List Goal) (tops : List ℕ) (s : State) → slot_count ≤ g.slot → bytes_at (tuner_in goals_too tops s) g.slot ≡ None
-  beyond_all goals_too tops s beyond = ap (option_and_then tunable_bytes) (no_scheme s.notes g.slot beyond)
-
-  bytes_next : (r : Course) (e : Event) → IsCarried goals r.memory r.moment.state → (bytes : ℕ) → bytes_at (tuner_before goals r e) g.slot ≡ Some bytes
-      → bytes_in goals (next_course r e) g.slot ≡ Some (new_by g (top_at (tuner_before goals r e) g.slot) bytes (score_at g r e))
-  bytes_next r e here bytes was =
-      let tops = tops_kept r.memory r.moment.state e in
-      ap (λ (x : State). bytes_at (tuner_in goals tops x) g.slot) (along-state r.moment (e ∷ put_in goals r e))
-      ∙ by_count (bytes_at (tuner_then goals r e) g.slot ≡ Some (new_by g (top_at (tuner_before goals r e) g.slot) bytes (score_at g r e))) g.slot
-      (bytes_put r e here bytes was)
-      (λ beyond. let bad : None ≡ Some bytes = sym (beyond_all goals tops (after r.moment.state e) beyond) ∙ was in absurd (cc bad))
-
-  -- a slot without bytes gets none
-  none_next : (r : Course) (e : Event) → IsCarried goals r.memory r.moment.state → (score : ℕ) → score_at g r e ≡ Some score
-      → bytes_at (tuner_before goals r e) g.slot ≡ None → bytes_in goals (next_course r e) g.slot ≡ None
-  none_next r e here score scored was =
-      let tops = tops_kept r.memory r.moment.state e in
-      let t = tuner_before goals r e in
-      ap (λ (x : State). bytes_at (tuner_in goals tops x) g.slot) (along-state r.moment (e ∷ put_in goals r e))
-      ∙ (elim (moment_after r.moment.state e) as (λ o. moment_after r.moment.state e ≡ o → option_and_then (score_of g.kind) o ≡ Some score
-      → bytes_at (tuner_then goals r e) g.slot ≡ None) [
-        | None ↦ λ none no_score. absurd (cc no_score)
-        | Some m ↦ λ some its_score.
-            by_count (bytes_at (tuner_then goals r e) g.slot ≡ None) g.slot
-            (λ within. bytes_then goals r e here m g.slot some within ∙ none_tunable t g.slot m was)
-            (λ beyond. beyond_all goals tops (run (after r.moment.state e) (put_in goals r e)) beyond)
-      ]) refl scored
 
   -- bytes after a score lie within the bounds
   inside : (top bytes : ℕ) (score : Option ℕ) → g.low ≤ g.high → IsIn g top bytes → IsIn g top (new_by g top bytes score)
@@ -196,27 +155,33 @@ module _ (goals : List Goal) (g : Goal) (one : goals_of goals g.slot ≡ g ∷ [
         let now : IsIn g top bytes = subst (λ n. IsIn g n bytes) (sym alike.1) within in
         let score = score_at g q e in
         let then_bytes = new_by g top bytes score in
+        let next_is = bytes_next q e here ∙ ap (option_map (λ b. new_by g top b score)) before in
         chain bytes then_bytes new (moved top bytes score scores.1 now)
-        (stretch es (next_course q e) (course_carries goals q e here) then_bytes new (bytes_next q e here bytes before) (inside top bytes score order now) is scores.2)
+        (stretch es (next_course q e) (course_carries goals q e here) then_bytes new next_is (inside top bytes score order now) is scores.2)
 
 pub stay : (goals : List Goal) (r : Course) (e : Event) → IsCarried goals r.memory r.moment.state → AllByRecursion IsGoal goals
     → StayWithTheScores goals r e
 stay goals r e here each es g score bytes new one scored was is =
-    by_before (bytes_at (tuner_before goals r e) g.slot) refl
+    by_before (bytes_at t g.slot)
+    (ap (λ o. option_map (λ b. new_by g top b o) (bytes_at t g.slot)) (sym scored) ∙ sym (bytes_next goals g one r e here) ∙ was)
   where
-    order : g.low ≤ g.high
-    order = (subst (λ (gs : List Goal). AllByRecursion IsGoal gs) one (each_of g.slot goals each)).0.bounds
+    q : Course
+    q = course_after (tune_callbacks goals) r e
 
-    by_before : (o : Option ℕ) → bytes_at (tuner_before goals r e) g.slot ≡ o
-        → (let q = course_after (tune_callbacks goals) r e in
-        (ScoresAre goals g (λ n. n < g.target) q es → bytes ≤ new) × (ScoresAre goals g (λ n. g.target ≤ n) q es → new ≤ bytes))
-    by_before None before = let bad : None ≡ Some bytes = sym (none_next goals g one r e here score scored before) ∙ was in absurd (cc bad)
-    by_before (Some earlier) before =
-        let q = course_after (tune_callbacks goals) r e in
-        let top = top_at (tuner_before goals r e) g.slot in
-        let now : Some (new_by g top earlier (score_at g r e)) ≡ Some bytes = sym (bytes_next goals g one r e here earlier before) ∙ was in
-        let scored_now : Some (new_by g top earlier (Some score)) ≡ Some bytes = ap (λ o. Some (new_by g top earlier o)) (sym scored) ∙ now in
-        let same : new_by g top earlier (Some score) ≡ bytes = cc scored_now in
+    t : TunerView
+    t = tuner_before goals r e
+
+    top : ℕ
+    top = top_at t g.slot
+
+    order : g.low ≤ g.high
+    order = (subst (λ (gs : List Goal). AllByRecursion IsGoal gs) one (kept_goals (λ x. x.slot == g.slot) goals each)).0.bounds
+
+    by_before : (o : Option ℕ) → option_map (λ b. new_by g top b (Some score)) o ≡ Some bytes
+        → (ScoresAre goals g (λ n. n < g.target) q es → bytes ≤ new) × (ScoresAre goals g (λ n. g.target ≤ n) q es → new ≤ bytes)
+    by_before None now = absurd (cc now)
+    by_before (Some earlier) now =
+        let same : new_by g top earlier (Some score) ≡ bytes = cc now in
         let within : IsIn g top bytes = subst (λ n. IsIn g top n) same (least_of_bounds g earlier top score, most_of_bounds g earlier top score order) in
         let there = course_carries goals r e here in (
           stretch goals g one (λ n. n < g.target) (λ a b. a ≤ b) (λ n. omega arith) (λ a b c first second. omega (arith, first, second))

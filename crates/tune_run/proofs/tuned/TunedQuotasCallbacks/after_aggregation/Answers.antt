@@ -1,7 +1,6 @@
-use Rattle.std.proofs.Common.{◌≡◌, ◌+◌, ◌≤◌, List, [], ◌∷◌, Option, ap, sym, subst, ◌∙◌}
+use Rattle.std.proofs.Common.{◌≡◌, ◌+◌, ◌≤◌, List, [], ◌∷◌, ap, sym, subst, ◌∙◌}
 use Rattle.std.specs.List.{AllByRecursion}
 use Rattle.damon_types.specs.declared.row.Row.{Row}
-use Rattle.damon_types.specs.declared.scheme.Scheme.{Scheme}
 use Rattle.damon_types.specs.Space.{pages_of}
 use Rattle.damon_types.specs.RowPages.{row_pages}
 use Rattle.damon_core.specs.After.{after}
@@ -17,7 +16,7 @@ use Rattle.quota_goal.specs.Tuned.{TunerView}
 use Rattle.tune_run.specs.Callbacks.{commits_of, tuned_by, tuner_in}
 use Rattle.tune_run.proofs.Changes.{from_the_first}
 use Rattle.tune_run.proofs.Reporting.{some_pages}
-use Rattle.tune_run.proofs.Staying.{schemes_stay}
+use Rattle.tune_run.proofs.Staying.{tuner_stays}
 use Rattle.tune_run.proofs.tuned.TunedQuotasCallbacks.after_aggregation.Goals as goal
 
 pub seen_in-seen-requires : goal.seen_in-seen-requires
@@ -36,7 +35,7 @@ seen_in-seen-requires g c =
 
 pub returns-clause-stands : goal.returns-clause-stands
 returns-clause-stands g c memory s words told = record {
-  is = told.stood.is ∙ ap (λ (schemes : List (Option Scheme)). record { goals = g.N.Named.goals; schemes = schemes; tops = memory }) (sym (schemes_stay s (aggregate words) tt));
+  is = told.stood.is ∙ sym (tuner_stays g.N.Named.goals memory s (aggregate words) tt);
   free = tt;
 }
 
@@ -48,6 +47,5 @@ returns-clause-puts g c memory s words told =
     let rows : c.report.result.now.rows.rows ≡ then.core.report.rows =
     ap (λ (r : ReportValue). r.rows) c.report.ensures.report ∙ ap (λ (x : Core). x.report.rows) told.shows.same in
     let scored : c.seen_in-seen.result ≡ seen then.core.report.rows = c.seen_in-seen.ensures ∙ ap seen rows in
-    let is : t ≡ tuner_in g.N.Named.goals memory then =
-    told.stood.is ∙ ap (λ (schemes : List (Option Scheme)). record { goals = g.N.Named.goals; schemes = schemes; tops = memory }) (sym (schemes_stay s (aggregate words) tt)) in
+    let is : t ≡ tuner_in g.N.Named.goals memory then = told.stood.is ∙ sym (tuner_stays g.N.Named.goals memory s (aggregate words) tt) in
     ap commits_of (from_the_first t moment) ∙ ap (λ (x : TunerView). tuned_by x moment) is ∙ ap (λ shares. tuned_by (tuner_in g.N.Named.goals memory then) (Seen shares)) scored

@@ -17,4 +17,4 @@ returns-clause-stands g c memory s reached stands fit =
     let here = subst (λ (o : Option Moment). StandsTuned goals old o memory s) some stands in
     let next = next_stands goals memory s old new c.args.self.now.next c.in_ok-moment.moment c.in_ok-change.change (reached_takes s reached) here c.in_ok-change.ensures.next in
     subst (λ (o : Option Moment). StandsTuned goals new o memory (after s (commit (commit_value c.change_alone.result)))) (sym some)
-    (subst (λ (parts : CommitValue). StandsTuned goals new (Some c.in_ok-moment.moment) memory (after s (commit parts))) (sym c.change_alone.ensures) next)
+    (subst (λ (parts : CommitValue). StandsTuned goals new (Some c.in_ok-moment.moment) memory (after s (commit parts))) (sym c.change_alone.ensures) next.1)
