@@ -4,7 +4,6 @@ use Rattle.std.proofs.lemmas.Result.{err_from_is_err_and}
 use Rattle.text_io.specs.declared.input.TheConstants.{INPUT_LIMIT}
 use Rattle.damon_admin.specs.Lines.{ContextLine}
 use Rattle.damon_admin.specs.Written.{texts_from}
-use Rattle.damon_app.specs.Answers.{ends_of}
 use Rattle.damon_app.specs.declared.request.Request.TheVariants.{Admin}
 use Rattle.damon_app.specs.StatusOf.{status_of_spelled}
 use Rattle.damon_app.proofs.Answering.{not_read, not_spelled}
@@ -15,20 +14,14 @@ pub returns-in_err-bytes-clause-refused : goal.returns-in_err-bytes-clause-refus
 returns-in_err-bytes-clause-refused g c =
     let p = err_from_is_err_and c.from_residual.result c.from_residual.ensures.1 in
     let failed = c.in_err-bytes.ensures in
-    rw (p.1, p.2) (λ sink. not_read INPUT_LIMIT Admin
-    (ends_of g.S.Source.left g.S.Source.calls c.args.source.now)
-    (ends_of g.S.Source.left g.S.Source.calls c.read_all.new.source)
-    sink sink (Unit {0}) c.in_err-bytes.field-0.0 tt
+    rw (p.1, p.2) (λ sink. not_read INPUT_LIMIT Admin _ _ _ _ _ c.in_err-bytes.field-0.0 tt
     (λ e. failed.too_long (ap (λ x. Err x) e)) (λ e. failed.within (ap (λ x. Err x) e)) (EndsAtFault-error failed.reads) failed.calls (EndsAtFault-none sink.calls (λ no. no)))
 
 pub returns-in_err-contexts-clause-refused : goal.returns-in_err-contexts-clause-refused
 returns-in_err-contexts-clause-refused g c =
     let p = err_from_is_err_and c.from_residual-in_err-contexts.result c.from_residual-in_err-contexts.ensures.1 in
     let read = c.in_ok-bytes.ensures in
-    rw (p.1, p.2) (λ sink. not_spelled INPUT_LIMIT Admin
-    (ends_of g.S.Source.left g.S.Source.calls c.args.source.now)
-    (ends_of g.S.Source.left g.S.Source.calls c.read_all.new.source)
-    sink sink (Unit {0}) c.in_ok-bytes.bytes.items read.all read.end read.limit c.in_err-contexts.field-0.0 (EndsAtFault-not (λ e. cc e) (λ no. no) read.reads, read.calls) (EndsAtFault-none sink.calls (λ no. no)) tt
+    rw (p.1, p.2) (λ sink. not_spelled INPUT_LIMIT Admin _ _ _ _ _ c.in_ok-bytes.bytes.items read.all read.end read.limit c.in_err-contexts.field-0.0 (EndsAtFault-not (λ e. cc e) (λ no. no) read.reads, read.calls) (EndsAtFault-none sink.calls (λ no. no)) tt
     (λ f e. ap status_of_spelled (rw e at c.in_err-contexts.ensures.fault)))
 
 pub returns-clause-taken : goal.returns-clause-taken

@@ -4,7 +4,6 @@ use Rattle.text_io.specs.declared.input.TheConstants.{INPUT_LIMIT}
 use Rattle.damon_core.specs.Reached.{CanOpen}
 use Rattle.journal_text.specs.Reading.{read_journal}
 use Rattle.journal_check.specs.Verified.{IsRunText}
-use Rattle.damon_app.specs.Answers.{ends_of}
 use Rattle.damon_app.specs.Heating.{columns_in}
 use Rattle.damon_app.specs.declared.request.Columns.{Columns}
 use Rattle.damon_app.specs.declared.request.Columns.TheVariants.{Eight, Sixteen, SixtyFour}
@@ -18,20 +17,14 @@ pub returns-in_err-bytes-clause-refused : goal.returns-in_err-bytes-clause-refus
 returns-in_err-bytes-clause-refused g c =
     let p = err_from_is_err_and c.from_residual.result c.from_residual.ensures.1 in
     let failed = c.in_err-bytes.ensures in
-    rw (p.1, p.2) (λ columns sink. not_read INPUT_LIMIT (Heat columns)
-    (ends_of g.S.Source.left g.S.Source.calls c.args.source.now)
-    (ends_of g.S.Source.left g.S.Source.calls c.read_all.new.source)
-    sink sink (Unit {0}) c.in_err-bytes.field-0.0 tt
+    rw (p.1, p.2) (λ columns sink. not_read INPUT_LIMIT (Heat columns) _ _ _ _ _ c.in_err-bytes.field-0.0 tt
     (λ e. failed.too_long (ap (λ x. Err x) e)) (λ e. failed.within (ap (λ x. Err x) e)) (EndsAtFault-error failed.reads) failed.calls (EndsAtFault-none sink.calls (λ no. no)))
 
 pub returns-in_err-replayer-clause-refused : goal.returns-in_err-replayer-clause-refused
 returns-in_err-replayer-clause-refused g c =
     let p = err_from_is_err_and c.from_residual-in_err-replayer.result c.from_residual-in_err-replayer.ensures.1 in
     let read = c.in_ok-bytes.ensures in
-    rw (p.1, p.2) (λ columns sink. not_verified INPUT_LIMIT (Heat columns)
-    (ends_of g.S.Source.left g.S.Source.calls c.args.source.now)
-    (ends_of g.S.Source.left g.S.Source.calls c.read_all.new.source)
-    sink sink (Unit {0}) c.in_ok-bytes.bytes.items read.all read.end read.limit c.in_err-replayer.field-0.0 (EndsAtFault-not (λ e. cc e) (λ no. no) read.reads, read.calls) (EndsAtFault-none sink.calls (λ no. no)) tt
+    rw (p.1, p.2) (λ columns sink. not_verified INPUT_LIMIT (Heat columns) _ _ _ _ _ c.in_ok-bytes.bytes.items read.all read.end read.limit c.in_err-replayer.field-0.0 (EndsAtFault-not (λ e. cc e) (λ no. no) read.reads, read.calls) (EndsAtFault-none sink.calls (λ no. no)) tt
     (λ n e. ap status_of_journal (subst (λ bs. read_journal bs ≡ Err n) c.deref.ensures.value (rw e at c.in_err-replayer.ensures.line))))
 
 some_columns : (columns : Columns) → 1 ≤ columns_in columns

@@ -3,7 +3,6 @@ use Rattle.std.proofs.lemmas.Result.{err_from_is_err_and}
 use Rattle.text_io.specs.declared.input.TheConstants.{INPUT_LIMIT}
 use Rattle.journal_text.specs.Reading.{read_journal}
 use Rattle.journal_check.specs.Verified.{IsVerified}
-use Rattle.damon_app.specs.Answers.{ends_of}
 use Rattle.damon_app.specs.declared.request.Request.TheVariants.{Verify}
 use Rattle.damon_app.specs.StatusOf.{status_of_journal}
 use Rattle.damon_app.proofs.Answering.{not_read, not_verified, out_of_memory}
@@ -14,30 +13,21 @@ pub returns-in_err-bytes-clause-refused : goal.returns-in_err-bytes-clause-refus
 returns-in_err-bytes-clause-refused g c =
     let p = err_from_is_err_and c.from_residual.result c.from_residual.ensures.1 in
     let failed = c.in_err-bytes.ensures in
-    rw (p.1, p.2) (λ sink. not_read INPUT_LIMIT Verify
-    (ends_of g.S.Source.left g.S.Source.calls c.args.source.now)
-    (ends_of g.S.Source.left g.S.Source.calls c.read_all.new.source)
-    sink sink (Unit {0}) c.in_err-bytes.field-0.0 tt
+    rw (p.1, p.2) (λ sink. not_read INPUT_LIMIT Verify _ _ _ _ _ c.in_err-bytes.field-0.0 tt
     (λ e. failed.too_long (ap (λ x. Err x) e)) (λ e. failed.within (ap (λ x. Err x) e)) (EndsAtFault-error failed.reads) failed.calls (EndsAtFault-none sink.calls (λ no. no)))
 
 pub returns-in_err-counts-clause-refused : goal.returns-in_err-counts-clause-refused
 returns-in_err-counts-clause-refused g c =
     let p = err_from_is_err_and c.from_residual-in_err-counts.result c.from_residual-in_err-counts.ensures.1 in
     let read = c.in_ok-bytes.ensures in
-    rw (p.1, p.2) (λ sink. not_verified INPUT_LIMIT Verify
-    (ends_of g.S.Source.left g.S.Source.calls c.args.source.now)
-    (ends_of g.S.Source.left g.S.Source.calls c.read_all.new.source)
-    sink sink (Unit {0}) c.in_ok-bytes.bytes.items read.all read.end read.limit c.in_err-counts.field-0.0 (EndsAtFault-not (λ e. cc e) (λ no. no) read.reads, read.calls) (EndsAtFault-none sink.calls (λ no. no)) tt
+    rw (p.1, p.2) (λ sink. not_verified INPUT_LIMIT Verify _ _ _ _ _ c.in_ok-bytes.bytes.items read.all read.end read.limit c.in_err-counts.field-0.0 (EndsAtFault-not (λ e. cc e) (λ no. no) read.reads, read.calls) (EndsAtFault-none sink.calls (λ no. no)) tt
     (λ n e. ap status_of_journal (subst (λ bs. read_journal bs ≡ Err n) c.deref.ensures.value (rw e at c.in_err-counts.ensures.line))))
 
 pub returns-in_err-line-clause-refused : goal.returns-in_err-line-clause-refused
 returns-in_err-line-clause-refused g c =
     let p = err_from_is_err_and c.from_residual-in_err-line.result c.from_residual-in_err-line.ensures.1 in
     let read = c.in_ok-bytes.ensures in
-    rw (p.1, p.2) (λ sink. out_of_memory INPUT_LIMIT Verify
-    (ends_of g.S.Source.left g.S.Source.calls c.args.source.now)
-    (ends_of g.S.Source.left g.S.Source.calls c.read_all.new.source)
-    sink sink (Unit {0}) (EndsAtFault-not (λ e. cc e) (λ no. no) read.reads, read.calls) (EndsAtFault-none sink.calls (λ no. no)) tt)
+    rw (p.1, p.2) (λ sink. out_of_memory INPUT_LIMIT Verify _ _ _ _ _ (EndsAtFault-not (λ e. cc e) (λ no. no) read.reads, read.calls) (EndsAtFault-none sink.calls (λ no. no)) tt)
 
 pub returns-clause-taken : goal.returns-clause-taken
 returns-clause-taken g c =
