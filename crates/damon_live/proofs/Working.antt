@@ -95,6 +95,9 @@ pub record AreGathered (v : LiveValue) (start now : List Step) (all : List (List
 pub none_said : (all : Listed (Listed Receipt)) → all.list ≡ [] → receipts_said all ≡ []
 none_said all none = ap (map (λ (rs : Listed Receipt). rs.list)) none
 
+pub none_counted : (all : Listed (Listed Receipt)) → all.list ≡ [] → length (receipts_said all) ≡ 0
+none_counted all none = ap length (none_said all none)
+
 pub none_gathered : (v : LiveValue) (start : List Step) (all : Listed (Listed Receipt)) → all.list ≡ [] → AreGathered v start start (receipts_said all)
 none_gathered v start all none = record {
   entries = sym (append-nil start) ∙ ap (λ rs. start ++ gathers 0 rs) (sym (none_said all none));
